@@ -140,7 +140,9 @@ impl RecordingReader {
         ensures most { self.new.taken + length self.new.held ≤ memory_limit }
         // It only goes forward, and places are numbers of 64 bits.
         ensures forward { self.old.place ≤ self.new.place }
-        ensures bounded { self.new.place < 2 ^ 64 }
+        ensures bounded { self.new.place + length self.new.held < 2 ^ 64 }
+        // It goes forward by what it takes of the bytes that are held.
+        ensures through { self.new.place + length self.new.held ≡ self.old.place + length self.old.held }
     {
         self.packet = None;
         let next = match self.stage {
@@ -165,6 +167,7 @@ impl RecordingReader {
         ensures whole { self.new.is_whole ≡ self.old.is_whole }
         ensures kept { self.new.taken + length self.new.held ≡ self.old.taken + length self.old.held }
         ensures forward { self.old.place ≤ self.new.place }
+        ensures through { self.new.place + length self.new.held ≡ self.old.place + length self.old.held }
     {
         let held = &self.bytes[self.start..];
         if held.len() < HEADER_LEN && !self.is_whole {
@@ -186,6 +189,7 @@ impl RecordingReader {
         ensures whole { self.new.is_whole ≡ self.old.is_whole }
         ensures kept { self.new.taken + length self.new.held ≡ self.old.taken + length self.old.held }
         ensures forward { self.old.place ≤ self.new.place }
+        ensures through { self.new.place + length self.new.held ≡ self.old.place + length self.old.held }
     {
         let held = &self.bytes[self.start..];
         let told = next_told(

@@ -3,4 +3,3 @@ pub mod trails
 pub mod histories
 pub mod lists
 pub mod rules
-pub mod texts

@@ -58,6 +58,7 @@ pub use config::{Common, Config, OfferedService, WantedService};
 pub use drops::DropReason;
 pub use error::NodeError;
 pub use output::Output;
+pub use output_text::OutputWords;
 pub use payload::Payload;
 pub use receiver::Receiver;
 pub use target::Target;

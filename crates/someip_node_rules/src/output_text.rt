@@ -1,27 +1,255 @@
-//! The texts of what a node gives.
+//! The words that tell what a node gives.
 //!
-//! An output has `Display`, and the line of a trace is made without it. A program that embeds a node prints
-//! outputs, and has no trace; a line is written into a buffer without taking memory. Both are proved to
-//! tell the words of one definition, `output_words`.
-ghost use Rattle.std.specs.Prelude.{◌++◌, ◌∷◌, [], codes, decimal, Some};
-ghost use Rattle.std.specs.Fmt.{WritesOnOk};
+//! A program that embeds a node prints an output by its `Display`. The line of a trace is made of the same
+//! words.
+ghost use Rattle.std.specs.Prelude.{◌≡◌, ◌∷◌, ◌++◌, [], Some, codes, map};
 ghost use Rattle.std.specs.Net.Text.{socket_v4_text};
-ghost use Rattle.hex.specs.Hex.{encode_lower};
-ghost use Rattle.someip_node_rules.specs.forms.OutputWords.{bytes_word, code_word, id_word, ids_word};
-ghost use Rattle.someip_node_rules.specs.forms.OutputWords.{instance_word, message_word, output_text, token_word, words_text};
-ghost use Rattle.sd_core.specs.Names.{cause_name};
+ghost use Rattle.std.specs.Fmt.{WritesOnOk};
+ghost use Rattle.someip_texts.specs.Words.{spaced, word_text};
+ghost use Rattle.someip_node_rules.specs.forms.OutputWords.{bytes_of, instance_word, number_words};
+ghost use Rattle.someip_node_rules.specs.forms.OutputWords.{output_text, output_words, token_word};
 
 use crate::output::Output;
-use sd_core::{Cause, Eventgroup, InstanceId};
-use sd_wire::SubscriptionCounter;
-use someip_rpc::MessageId;
-use someip_wire::ReturnCode;
+use sd_core::Eventgroup;
+use someip_texts::Word;
 use std::fmt;
 use std::fmt::Display;
+use std::marker::Model;
 use std::net::SocketAddrV4;
 
-/// As a line of a trace tells it, without the number of a datagram: IDs have four hex digits, codes two,
-/// and payloads are hex, or `-` where they are empty.
+/// The most words that tell an output.
+const MOST_WORDS: usize = 5;
+
+/// The words that tell an output. Contracts see their texts.
+#[derive(Drop)]
+pub struct OutputWords<'o> {
+    /// The words, and after them some that nobody reads.
+    words: [Word<'o>; MOST_WORDS],
+    /// How many words there are.
+    count: usize,
+}
+
+impl<'o> Model for OutputWords<'o> {
+    ghost use Rattle.std.specs.Prelude.{List, ℕ, map, take, ◌≤◌};
+    ghost use Rattle.someip_texts.specs.Words.{word_text};
+
+    ghost Value = { List (List ℕ) };
+
+    ghost view = { λ w. map word_text (take w.count w.words) };
+
+    ghost invariant = { λ w. w.count ≤ 5 };
+}
+
+impl<'o> OutputWords<'o> {
+    /// The words, one after the other.
+    pub fn as_slice(&self) -> &[Word<'o>]
+        ensures { map word_text result.now ≡ self.now }
+    {
+        &self.words[..self.count]
+    }
+
+    fn two(a: Word<'o>, b: Word<'o>) -> OutputWords<'o>
+        ensures { result ≡ word_text a.entry ∷ word_text b.entry ∷ [] }
+    {
+        let none = Word::Text("");
+        OutputWords {
+            words: [a, b, none, none, none],
+            count: 2,
+        }
+    }
+
+    fn three(a: Word<'o>, b: Word<'o>, c: Word<'o>) -> OutputWords<'o>
+        ensures { result ≡ word_text a.entry ∷ word_text b.entry ∷ word_text c.entry ∷ [] }
+    {
+        let none = Word::Text("");
+        OutputWords {
+            words: [a, b, c, none, none],
+            count: 3,
+        }
+    }
+
+    fn four(a: Word<'o>, b: Word<'o>, c: Word<'o>, d: Word<'o>) -> OutputWords<'o>
+        ensures { result ≡ word_text a.entry ∷ word_text b.entry ∷ word_text c.entry ∷ word_text d.entry ∷ [] }
+    {
+        let none = Word::Text("");
+        OutputWords {
+            words: [a, b, c, d, none],
+            count: 4,
+        }
+    }
+
+    fn five(words: [Word<'o>; MOST_WORDS]) -> OutputWords<'o>
+        ensures { result ≡ map word_text words.entry }
+    {
+        OutputWords {
+            words,
+            count: MOST_WORDS,
+        }
+    }
+}
+
+impl Output {
+    /// The words that tell it: IDs have four hex digits, codes two, and payloads are hex, or `-` where they
+    /// are empty. A datagram that is sent is told with its number, if it has one.
+    pub fn words(&self, number: Option<usize>) -> OutputWords<'_>
+        ensures { result ≡ output_words (number_words number) self.now }
+    {
+        let bytes = Word::Bytes(bytes_of(self));
+        match self {
+            Output::Sent { from, to, .. } => return sent(number, *from, *to, bytes),
+            Output::Answered {
+                message,
+                session,
+                code,
+                ..
+            } => {
+                return OutputWords::five([
+                    Word::Text("answer"),
+                    Word::Ids(message.service, message.method),
+                    Word::Id(*session),
+                    Word::Byte(code.0),
+                    bytes,
+                ]);
+            }
+            Output::Request {
+                token,
+                instance,
+                method,
+                ..
+            } => {
+                return OutputWords::five([
+                    Word::Text("request"),
+                    token_word(*token),
+                    Word::Ids(instance.service, instance.instance),
+                    Word::Id(*method),
+                    bytes,
+                ]);
+            }
+            Output::Event {
+                instance,
+                event,
+                ..
+            } => {
+                return OutputWords::four(
+                    Word::Text("event"),
+                    Word::Ids(instance.service, instance.instance),
+                    Word::Id(*event),
+                    bytes,
+                );
+            }
+            Output::Called { message, session } => OutputWords::three(
+                Word::Text("call"),
+                Word::Ids(message.service, message.method),
+                Word::Id(*session),
+            ),
+            Output::TimedOut { message, session } => OutputWords::three(
+                Word::Text("timeout"),
+                Word::Ids(message.service, message.method),
+                Word::Id(*session),
+            ),
+            Output::Known { instance, endpoint } => OutputWords::three(
+                Word::Text("known"),
+                Word::Ids(instance.service, instance.instance),
+                Word::Endpoint(*endpoint),
+            ),
+            Output::Gone { instance } => OutputWords::two(
+                Word::Text("gone"),
+                Word::Ids(instance.service, instance.instance),
+            ),
+            Output::Subscribed {
+                eventgroup,
+                counter,
+            } => OutputWords::four(
+                Word::Text("subscribed"),
+                instance_of(eventgroup),
+                Word::Id(eventgroup.id),
+                Word::Number(counter.number() as usize),
+            ),
+            Output::Unsubscribed { eventgroup } => OutputWords::three(
+                Word::Text("unsubscribed"),
+                instance_of(eventgroup),
+                Word::Id(eventgroup.id),
+            ),
+            Output::Accepted {
+                eventgroup,
+                endpoint,
+                counter,
+            } => OutputWords::five([
+                Word::Text("accepted"),
+                instance_of(eventgroup),
+                Word::Id(eventgroup.id),
+                Word::Endpoint(*endpoint),
+                Word::Number(counter.number() as usize),
+            ]),
+            Output::Nacked { eventgroup, cause } => OutputWords::four(
+                Word::Text("nacked"),
+                instance_of(eventgroup),
+                Word::Id(eventgroup.id),
+                Word::Text(cause.name()),
+            ),
+            Output::Rebooted { peer } => {
+                OutputWords::two(Word::Text("reboot"), Word::Address(*peer))
+            }
+            Output::Dropped { reason } => {
+                OutputWords::two(Word::Text("dropped"), Word::Text(reason.name()))
+            }
+        }
+    }
+}
+
+/// The bytes of an output that has some.
+fn bytes_of(output: &Output) -> &[u8]
+    ensures { result.now ≡ bytes_of output.now }
+{
+    match output {
+        Output::Sent { bytes, .. } => bytes.as_slice(),
+        Output::Answered { payload, .. }
+        | Output::Request { payload, .. }
+        | Output::Event { payload, .. } => payload.as_slice(),
+        _ => &[],
+    }
+}
+
+/// A datagram that is sent, with its number, if it has one.
+fn sent<'o>(
+    number: Option<usize>,
+    from: SocketAddrV4,
+    to: SocketAddrV4,
+    bytes: Word<'o>,
+) -> OutputWords<'o>
+    ensures { result ≡ codes "sent" ∷ (number_words number ++ (socket_v4_text from ∷ socket_v4_text to ∷ word_text bytes.entry ∷ [])) }
+{
+    let (from, to) = (Word::Endpoint(from), Word::Endpoint(to));
+    match number {
+        Some(number) => OutputWords::five([
+            Word::Text("sent"),
+            Word::Number(number),
+            from,
+            to,
+            bytes,
+        ]),
+        None => OutputWords::four(Word::Text("sent"), from, to, bytes),
+    }
+}
+
+/// The instance of an eventgroup.
+fn instance_of(eventgroup: &Eventgroup) -> Word<'static>
+    ensures { word_text result ≡ instance_word eventgroup.now.instance }
+{
+    Word::Ids(eventgroup.instance.service, eventgroup.instance.instance)
+}
+
+/// The number of a token, or `-` for none.
+fn token_word(token: Option<u64>) -> Word<'static>
+    ensures { word_text result ≡ token_word token }
+{
+    match token {
+        Some(token) => Word::Number(token as usize),
+        None => Word::Text("-"),
+    }
+}
+
+/// As a line of a trace tells it, without the number of a datagram.
 ///
 /// ```text
 /// known 1111.0001 192.168.0.1:30509
@@ -32,284 +260,23 @@ impl Display for Output {
     ghost output = { λ output. Some (output_text output) };
 
     fn fmt<W: fmt::Write>(&self, f: &mut fmt::Formatter<W>) -> fmt::Result {
-        match self {
-            Output::Sent { from, to, bytes } => write_sent(f, *from, *to, bytes.as_slice()),
-            Output::Called { message, session } => {
-                write!(f, "call")?;
-                write_call(f, *message, *session)
+        let words = self.words(None);
+        match words.as_slice() {
+            [first, others @ ..] => {
+                write!(f, "{first}")?;
+                write_others(f, others)
             }
-            Output::TimedOut { message, session } => {
-                write!(f, "timeout")?;
-                write_call(f, *message, *session)
-            }
-            Output::Answered {
-                message,
-                session,
-                code,
-                payload,
-            } => write_answer(f, *message, *session, *code, payload.as_slice()),
-            Output::Request {
-                token,
-                instance,
-                method,
-                payload,
-            } => write_request(f, *token, *instance, *method, payload.as_slice()),
-            Output::Event {
-                instance,
-                event,
-                payload,
-            } => write_event(f, *instance, *event, payload.as_slice()),
-            Output::Known { instance, endpoint } => write_known(f, *instance, *endpoint),
-            Output::Gone { instance } => {
-                write!(f, "gone")?;
-                write_instance(f, *instance)
-            }
-            Output::Subscribed {
-                eventgroup,
-                counter,
-            } => write_subscribed(f, *eventgroup, *counter),
-            Output::Unsubscribed { eventgroup } => {
-                write!(f, "unsubscribed")?;
-                write_eventgroup(f, *eventgroup)
-            }
-            Output::Accepted {
-                eventgroup,
-                endpoint,
-                counter,
-            } => write_accepted(f, *eventgroup, *endpoint, *counter),
-            Output::Nacked { eventgroup, cause } => write_nacked(f, *eventgroup, *cause),
-            Output::Rebooted { peer } => write!(f, "reboot {peer}"),
-            Output::Dropped { reason } => write!(f, "dropped {}", reason.name()),
+            [] => Ok(()),
         }
     }
 }
 
-/// A datagram that is sent.
-fn write_sent<W: fmt::Write>(
-    f: &mut fmt::Formatter<W>,
-    from: SocketAddrV4,
-    to: SocketAddrV4,
-    bytes: &[u8],
-) -> fmt::Result
-    ensures { WritesOnOk W.write_str_gives f.old result
-        (words_text (codes "sent" ∷ socket_v4_text from ∷ socket_v4_text to ∷ bytes_word bytes.now ∷ [])) f.new }
+/// Writes words, each after a space.
+fn write_others<W: fmt::Write>(f: &mut fmt::Formatter<W>, words: &[Word<'_>]) -> fmt::Result
+    ensures { WritesOnOk W.write_str_gives f.old result (spaced (map word_text words.now)) f.new }
 {
-    write!(f, "sent")?;
-    write_endpoint(f, from)?;
-    write_endpoint(f, to)?;
-    write_bytes(f, bytes)
-}
-
-/// The answer to a call.
-fn write_answer<W: fmt::Write>(
-    f: &mut fmt::Formatter<W>,
-    message: MessageId,
-    session: u16,
-    code: ReturnCode,
-    payload: &[u8],
-) -> fmt::Result
-    ensures { WritesOnOk W.write_str_gives f.old result
-        (words_text (codes "answer" ∷ message_word message ∷ id_word session ∷ code_word code.0 ∷ bytes_word payload.now ∷ [])) f.new }
-{
-    write!(f, "answer")?;
-    write_call(f, message, session)?;
-    write_code(f, code)?;
-    write_bytes(f, payload)
-}
-
-/// A request to an instance.
-fn write_request<W: fmt::Write>(
-    f: &mut fmt::Formatter<W>,
-    token: Option<u64>,
-    instance: InstanceId,
-    method: u16,
-    payload: &[u8],
-) -> fmt::Result
-    ensures { WritesOnOk W.write_str_gives f.old result
-        (words_text (codes "request" ∷ token_word token ∷ instance_word instance ∷ id_word method ∷ bytes_word payload.now ∷ [])) f.new }
-{
-    write!(f, "request")?;
-    write_token(f, token)?;
-    write_instance(f, instance)?;
-    write_id(f, method)?;
-    write_bytes(f, payload)
-}
-
-/// An event of an instance.
-fn write_event<W: fmt::Write>(
-    f: &mut fmt::Formatter<W>,
-    instance: InstanceId,
-    event: u16,
-    payload: &[u8],
-) -> fmt::Result
-    ensures { WritesOnOk W.write_str_gives f.old result
-        (words_text (codes "event" ∷ instance_word instance ∷ id_word event ∷ bytes_word payload.now ∷ [])) f.new }
-{
-    write!(f, "event")?;
-    write_instance(f, instance)?;
-    write_id(f, event)?;
-    write_bytes(f, payload)
-}
-
-/// An offer that is known.
-fn write_known<W: fmt::Write>(
-    f: &mut fmt::Formatter<W>,
-    instance: InstanceId,
-    endpoint: SocketAddrV4,
-) -> fmt::Result
-    ensures { WritesOnOk W.write_str_gives f.old result
-        (words_text (codes "known" ∷ instance_word instance ∷ socket_v4_text endpoint ∷ [])) f.new }
-{
-    write!(f, "known")?;
-    write_instance(f, instance)?;
-    write_endpoint(f, endpoint)
-}
-
-/// A subscription that was acknowledged.
-fn write_subscribed<W: fmt::Write>(
-    f: &mut fmt::Formatter<W>,
-    eventgroup: Eventgroup,
-    counter: SubscriptionCounter,
-) -> fmt::Result
-    ensures { WritesOnOk W.write_str_gives f.old result
-        (words_text (codes "subscribed" ∷ instance_word eventgroup.instance ∷ id_word eventgroup.id ∷ decimal counter ∷ [])) f.new }
-{
-    write!(f, "subscribed")?;
-    write_eventgroup(f, eventgroup)?;
-    write!(f, " {}", counter.number())
-}
-
-/// A Subscribe that was accepted.
-fn write_accepted<W: fmt::Write>(
-    f: &mut fmt::Formatter<W>,
-    eventgroup: Eventgroup,
-    endpoint: SocketAddrV4,
-    counter: SubscriptionCounter,
-) -> fmt::Result
-    ensures { WritesOnOk W.write_str_gives f.old result
-        (words_text (codes "accepted" ∷ instance_word eventgroup.instance ∷ id_word eventgroup.id ∷ socket_v4_text endpoint ∷ decimal counter ∷ [])) f.new }
-{
-    write!(f, "accepted")?;
-    write_eventgroup(f, eventgroup)?;
-    write_endpoint(f, endpoint)?;
-    write!(f, " {}", counter.number())
-}
-
-/// A Subscribe that was answered by a Nack.
-fn write_nacked<W: fmt::Write>(
-    f: &mut fmt::Formatter<W>,
-    eventgroup: Eventgroup,
-    cause: Cause,
-) -> fmt::Result
-    ensures { WritesOnOk W.write_str_gives f.old result
-        (words_text (codes "nacked" ∷ instance_word eventgroup.instance ∷ id_word eventgroup.id ∷ cause_name cause ∷ [])) f.new }
-{
-    write!(f, "nacked")?;
-    write_eventgroup(f, eventgroup)?;
-    write!(f, " {}", cause.name())
-}
-
-/// A call: its Message ID and its Session ID, each after a space.
-fn write_call<W: fmt::Write>(
-    f: &mut fmt::Formatter<W>,
-    message: MessageId,
-    session: u16,
-) -> fmt::Result
-    ensures { WritesOnOk W.write_str_gives f.old result
-        ((codes " " ++ message_word message) ++ (codes " " ++ id_word session)) f.new }
-{
-    write_ids(f, message.service, message.method)?;
-    write_id(f, session)
-}
-
-/// The token of a request, or `-` where it waits for no answer, after a space.
-fn write_token<W: fmt::Write>(f: &mut fmt::Formatter<W>, token: Option<u64>) -> fmt::Result
-    ensures { WritesOnOk W.write_str_gives f.old result
-        (codes " " ++ token_word token) f.new }
-{
-    match token {
-        Some(token) => write!(f, " {token}"),
-        None => write!(f, " -"),
-    }
-}
-
-/// An instance, after a space.
-fn write_instance<W: fmt::Write>(f: &mut fmt::Formatter<W>, instance: InstanceId) -> fmt::Result
-    ensures { WritesOnOk W.write_str_gives f.old result
-        (codes " " ++ instance_word instance) f.new }
-{
-    write_ids(f, instance.service, instance.instance)
-}
-
-/// An eventgroup: its instance and its ID, each after a space.
-fn write_eventgroup<W: fmt::Write>(f: &mut fmt::Formatter<W>, eventgroup: Eventgroup) -> fmt::Result
-    ensures { WritesOnOk W.write_str_gives f.old result
-        ((codes " " ++ instance_word eventgroup.instance) ++ (codes " " ++ id_word eventgroup.id))
-        f.new }
-{
-    write_instance(f, eventgroup.instance)?;
-    write_id(f, eventgroup.id)
-}
-
-/// Two IDs with a dot between them, after a space.
-fn write_ids<W: fmt::Write>(f: &mut fmt::Formatter<W>, first: u16, second: u16) -> fmt::Result
-    ensures { WritesOnOk W.write_str_gives f.old result
-        (codes " " ++ ids_word first second) f.new }
-{
-    write_id(f, first)?;
-    write!(f, ".")?;
-    write_hex(f, &second.to_be_bytes())
-}
-
-/// An ID, after a space.
-fn write_id<W: fmt::Write>(f: &mut fmt::Formatter<W>, id: u16) -> fmt::Result
-    ensures { WritesOnOk W.write_str_gives f.old result (codes " " ++ id_word id) f.new }
-{
-    write!(f, " ")?;
-    write_hex(f, &id.to_be_bytes())
-}
-
-/// A Return Code, after a space.
-fn write_code<W: fmt::Write>(f: &mut fmt::Formatter<W>, code: ReturnCode) -> fmt::Result
-    ensures { WritesOnOk W.write_str_gives f.old result (codes " " ++ code_word code.0) f.new }
-{
-    write!(f, " ")?;
-    write_byte(f, code.0)
-}
-
-/// Bytes in hex, or `-` for none, after a space.
-fn write_bytes<W: fmt::Write>(f: &mut fmt::Formatter<W>, bytes: &[u8]) -> fmt::Result
-    ensures { WritesOnOk W.write_str_gives f.old result (codes " " ++ bytes_word bytes.now) f.new }
-{
-    if bytes.is_empty() {
-        return write!(f, " -");
-    }
-    write!(f, " ")?;
-    write_hex(f, bytes)
-}
-
-/// An endpoint, after a space.
-fn write_endpoint<W: fmt::Write>(f: &mut fmt::Formatter<W>, endpoint: SocketAddrV4) -> fmt::Result
-    ensures { WritesOnOk W.write_str_gives f.old result
-        (codes " " ++ socket_v4_text endpoint) f.new }
-{
-    write!(f, " {endpoint}")
-}
-
-/// Bytes in hex.
-fn write_hex<W: fmt::Write>(f: &mut fmt::Formatter<W>, bytes: &[u8]) -> fmt::Result
-    ensures { WritesOnOk W.write_str_gives f.old result (encode_lower bytes.now) f.new }
-{
-    for byte in bytes {
-        write_byte(f, *byte)?;
+    for word in words {
+        write!(f, " {word}")?;
     }
     Ok(())
-}
-
-/// A byte in hex.
-#[tactic(auto, using(crate::proofs::texts::HexTexts::two_digits))]
-fn write_byte<W: fmt::Write>(f: &mut fmt::Formatter<W>, byte: u8) -> fmt::Result
-    ensures { WritesOnOk W.write_str_gives f.old result (encode_lower (byte ∷ [])) f.new }
-{
-    write!(f, "{byte:02x}")
 }

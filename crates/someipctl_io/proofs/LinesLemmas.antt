@@ -7,8 +7,8 @@ use Rattle.std.proofs.lemmas.Nat.{from_be_bytes-to_be_bytes_4}
 use Rattle.someip_wire.specs.Kinds.{has_tp_flag}
 use Rattle.someip_wire.specs.Spelling.{MessageValue}
 use Rattle.someip_reassembly.specs.TpHeader.{reads_segment, tp_header_in}
-use Rattle.someipctl_io.specs.Parts.{hex4, hex2}
-use Rattle.someipctl_io.specs.Lines.{joined, type_name, payload_text, line_behind, flag_text, fault_line, segment_lines}
+use Rattle.someip_texts.specs.Words.{bytes_text, hex2, hex4}
+use Rattle.someipctl_io.specs.Lines.{joined, type_name, line_behind, flag_text, fault_line, segment_lines}
 
 -- a part in front of others, taken apart
 parts3 : (x a b c rest others : List ℕ) → x ≡ a ++ b ++ c → rest ≡ others → x ++ rest ≡ a ++ (b ++ (c ++ others))
@@ -22,13 +22,13 @@ pub line_behind-parts : (k : ℕ) (m : MessageValue) (ids session interface code
     → session ≡ codes " client " ++ hex4 m.header.client ++ codes " session " ++ hex4 m.header.session
     → interface ≡ codes " interface " ++ hex2 m.header.interface ++ codes " type "
     → code ≡ codes " code " ++ hex2 m.header.code.0 ++ codes " payload "
-    → joined (decimal k ∷ ids ∷ decimal (8 + length m.payload) ∷ session ∷ interface ∷ type_name m.header.kind ∷ code ∷ payload_text m.payload ∷ codes "\n" ∷ []) ≡ line_behind ids k m
+    → joined (decimal k ∷ ids ∷ decimal (8 + length m.payload) ∷ session ∷ interface ∷ type_name m.header.kind ∷ code ∷ bytes_text m.payload ∷ codes "\n" ∷ []) ≡ line_behind ids k m
 line_behind-parts k m ids session interface code s f c =
     ap (λ (t : List ℕ). decimal k ++ (ids ++ (decimal (8 + length m.payload) ++ t)))
     (parts4 session (codes " client ") (hex4 m.header.client) (codes " session ") (hex4 m.header.session) _ _ s
     (parts3 interface (codes " interface ") (hex2 m.header.interface) (codes " type ") _ _ f
     (ap (λ (t : List ℕ). type_name m.header.kind ++ t)
-    (parts3 code (codes " code ") (hex2 m.header.code.0) (codes " payload ") (payload_text m.payload ++ codes "\n") (payload_text m.payload ++ codes "\n") c refl))))
+    (parts3 code (codes " code ") (hex2 m.header.code.0) (codes " payload ") (bytes_text m.payload ++ codes "\n") (bytes_text m.payload ++ codes "\n") c refl))))
 
 -- a segment without a TP header has its fault alone
 pub segment_lines-fault : (k place : ℕ) (m : MessageValue) → has_tp_flag m.header.kind ≡ true → length m.payload < 4 → segment_lines k place m ≡ fault_line k (codes "NoHeader") place

@@ -18,7 +18,7 @@ use Rattle.sd_wire.specs.declared.SdRead.{SdRead}
 use Rattle.sd_wire.specs.contents.Values.{ReadValue, good, bad_run, SdValue, view_sd}
 use Rattle.sd_wire.specs.decoding.Faults.{fault_name, fault_place}
 use Rattle.sd_wire.specs.decoding.Program.{reading}
-use Rattle.someipctl_io.specs.Parts.{hex4, hex2}
+use Rattle.someip_texts.specs.Words.{hex2, hex4}
 use Rattle.someipctl_io.specs.Lines.{joined, flag_text, fault_line}
 use Rattle.someipctl_io.specs.Options.{runs_text}
 

@@ -1,13 +1,12 @@
 -- The lines of `show`, byte for byte.
 use Rattle.std.specs.Prelude.{ℕ, ◌+◌, nat_lt, Bool, true, false, if◌then◌else◌, List, [], ◌∷◌, ◌++◌, length, drop, codes, decimal}
 use Rattle.std.specs.List.{flat_map}
-use Rattle.hex.specs.Hex.{encode_lower}
 use Rattle.someip_wire.specs.declared.MessageType.{MessageType}
 use Rattle.someip_wire.specs.declared.MessageType.TheVariants.{Request, RequestNoReturn, Notification, Response, Error, TpRequest, TpRequestNoReturn, TpNotification, TpResponse, TpError}
 use Rattle.someip_wire.specs.Kinds.{has_tp_flag}
 use Rattle.someip_wire.specs.Spelling.{MessageValue}
 use Rattle.someip_reassembly.specs.TpHeader.{offset_of, more_of, tp_header_in}
-use Rattle.someipctl_io.specs.Parts.{hex4, hex2}
+use Rattle.someip_texts.specs.Words.{bytes_text, hex2, hex4}
 
 -- the texts one after the other
 abbrev pub joined : List (List ℕ) → List ℕ
@@ -26,11 +25,6 @@ type_name TpNotification = codes "TP_NOTIFICATION"
 type_name TpResponse = codes "TP_RESPONSE"
 type_name TpError = codes "TP_ERROR"
 
--- a payload in hex, and `-` for an empty one
-abbrev pub payload_text : List ℕ → List ℕ
-payload_text [] = codes "-"
-payload_text (b ∷ bytes) = encode_lower (b ∷ bytes)
-
 -- the word of a line that tells a message, its Message ID, and what stands before its length
 abbrev pub ids_by : List ℕ → ℕ → ℕ → List ℕ
 ids_by word service method = word ++ hex4 service ++ codes "." ++ hex4 method ++ codes " length "
@@ -41,7 +35,7 @@ line_behind ids k m = joined (
     decimal k ∷ ids ∷ decimal (8 + length m.payload)
     ∷ codes " client " ∷ hex4 m.header.client ∷ codes " session " ∷ hex4 m.header.session
     ∷ codes " interface " ∷ hex2 m.header.interface ∷ codes " type " ∷ type_name m.header.kind
-    ∷ codes " code " ∷ hex2 m.header.code.0 ∷ codes " payload " ∷ payload_text m.payload ∷ codes "\n" ∷ [])
+    ∷ codes " code " ∷ hex2 m.header.code.0 ∷ codes " payload " ∷ bytes_text m.payload ∷ codes "\n" ∷ [])
 
 -- the line of a message in the k-th datagram
 abbrev pub message_line : ℕ → MessageValue → List ℕ

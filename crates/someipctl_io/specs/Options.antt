@@ -8,7 +8,7 @@ use Rattle.sd_wire.specs.declared.SdOption.{SdOption}
 use Rattle.sd_wire.specs.declared.SdOption.TheVariants.{LoadBalancing, Endpoint4, Multicast4, SdEndpoint4, Endpoint6, Multicast6, SdEndpoint6, Raw}
 use Rattle.sd_wire.specs.declared.Ipv4Endpoint.{Ipv4Endpoint}
 use Rattle.sd_wire.specs.declared.Ipv6Endpoint.{Ipv6Endpoint}
-use Rattle.someipctl_io.specs.Parts.{hex2}
+use Rattle.someip_texts.specs.Words.{hex2}
 use Rattle.someipctl_io.specs.Lines.{joined}
 
 -- a transport protocol

@@ -36,4 +36,5 @@ pub use lines::{put_dropped, put_empty, put_whole_line};
 pub use outcome::Outcome;
 pub use output::{Buffer, CannotWrite, write_text};
 pub use parts::{Part, put_parts};
-pub use words::{Word, put_end, put_words};
+pub use someip_texts::Word;
+pub use words::{put_end, put_words};

@@ -6,9 +6,10 @@ ghost use Rattle.std.specs.Prelude.{◌≡◌, ◌&&◌, ◌+◌, ◌∷◌, ◌
 ghost use Rattle.std.specs.List.{flat_map};
 ghost use Rattle.someip_wire.specs.Kinds.{has_tp_flag};
 ghost use Rattle.someip_wire.specs.View.{view};
+ghost use Rattle.someip_texts.specs.Words.{bytes_text, hex2, hex4};
 ghost use Rattle.someipctl_io.specs.Sending.{Sends, Stops};
-ghost use Rattle.someipctl_io.specs.Parts.{hex2, hex4, part_text};
-ghost use Rattle.someipctl_io.specs.Lines.{ids_by, joined, line_behind, type_name, payload_text};
+ghost use Rattle.someipctl_io.specs.Parts.{part_text};
+ghost use Rattle.someipctl_io.specs.Lines.{ids_by, joined, line_behind, type_name};
 ghost use Rattle.someipctl_io.specs.Lines.{dropped_line, message_line, fault_line, empty_line, flag_text, whole_line};
 ghost use Rattle.someipctl_io.specs.Lines.{segment_lines, has_no_tp_header};
 
@@ -125,7 +126,7 @@ fn message_parts<'p>(
 ) -> [Part<'p>; 9]
     ensures { flat_map part_text result ≡ joined (decimal k ∷ ids.now
         ∷ decimal (8 + length payload.now) ∷ session.now ∷ interface.now ∷ type_name kind
-        ∷ code.now ∷ payload_text payload.now ∷ codes "\n" ∷ []) }
+        ∷ code.now ∷ bytes_text payload.now ∷ codes "\n" ∷ []) }
 {
     [
         Part::Number(k),
@@ -258,7 +259,7 @@ pub(crate) fn put_fault<W: Write>(
 
 /// The payload in hex, or `-` where it is empty.
 pub(crate) fn payload_part(payload: &[u8]) -> Part<'_>
-    ensures { part_text result ≡ payload_text payload.now }
+    ensures { part_text result ≡ bytes_text payload.now }
 {
     if payload.is_empty() {
         Part::Text("-")

@@ -1,8 +1,9 @@
 //! The parts of a line: text, numbers and hex.
 ghost use Rattle.std.specs.Prelude.{◌≡◌, OnOk, OnErr};
 ghost use Rattle.std.specs.List.{flat_map};
+ghost use Rattle.someip_texts.specs.Words.{hex2, hex4};
 ghost use Rattle.someipctl_io.specs.Sending.{Sends, Stops};
-ghost use Rattle.someipctl_io.specs.Parts.{hex2, hex4, part_text};
+ghost use Rattle.someipctl_io.specs.Parts.{part_text};
 
 use crate::output::{Buffer, CannotWrite, write_hex};
 use std::io::Write;

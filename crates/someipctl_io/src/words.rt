@@ -3,36 +3,17 @@ ghost use Rattle.std.specs.Prelude.{◌≡◌, ◌++◌, OnOk, OnErr, codes, map
 ghost use Rattle.std.specs.List.{flat_map};
 ghost use Rattle.std.specs.Net.Addr.{ipv4_octets};
 ghost use Rattle.std.specs.Net.Text.{ipv4_text, socket_v4_text};
+ghost use Rattle.someip_texts.specs.Words.{ids_text, spaced, word_text};
 ghost use Rattle.someipctl_io.specs.Sending.{Sends, Stops};
 ghost use Rattle.someipctl_io.specs.Parts.{part_text};
-ghost use Rattle.someipctl_io.specs.Words.{ids_text, word_text, spaced, ended};
+ghost use Rattle.someipctl_io.specs.Words.{ended};
 
 use crate::lines::payload_part;
 use crate::output::{Buffer, CannotWrite};
 use crate::parts::{Part, put_parts};
+use someip_texts::Word;
 use std::io::Write;
 use std::net::{Ipv4Addr, SocketAddrV4};
-
-/// A word of a line.
-#[derive(Clone, Copy)]
-pub enum Word<'w> {
-    /// Text as it is.
-    Text(&'w str),
-    /// A number in decimal digits.
-    Number(usize),
-    /// An ID of 16 bits as four lower-case hex digits.
-    Id(u16),
-    /// Two IDs with a dot between them, as of a service and its method.
-    Ids(u16, u16),
-    /// A byte as two lower-case hex digits.
-    Byte(u8),
-    /// Bytes as two lower-case hex digits each, or `-` where there are none.
-    Bytes(&'w [u8]),
-    /// An address: four numbers with dots between them.
-    Address(Ipv4Addr),
-    /// An address, a colon and a port.
-    Endpoint(SocketAddrV4),
-}
 
 /// Prints words and the end of their line.
 pub fn put_end<W: Write>(

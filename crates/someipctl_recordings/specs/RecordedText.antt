@@ -16,7 +16,7 @@ use Rattle.someip_reassembly.specs.Names.{error_name}
 use Rattle.someip_reassembly.specs.Parts.{Limits}
 use Rattle.someipctl_io.specs.Items.{item_len, item_lines}
 use Rattle.someipctl_io.specs.Lines.{dropped_line, empty_line, whole_line}
-use Rattle.someipctl_io.specs.Words.{spaced}
+use Rattle.someip_texts.specs.Words.{spaced}
 use Rattle.someipctl_show.specs.types.Types.{TypesValue}
 use Rattle.someipctl_show.specs.types.ValueLine.{value_line, has_value_fault}
 use Rattle.someipctl_show.specs.declared.services.AskedService.{AskedService}

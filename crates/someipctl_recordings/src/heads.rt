@@ -8,7 +8,7 @@ ghost use Rattle.someipctl_io.specs.Sending.{Sends, Stops};
 ghost use Rattle.someipctl_recordings.specs.RecordedText.{endpoint_text, head_text, nine_digits, time_text};
 ghost use Rattle.someipctl_recordings.specs.RecordedText.{with_heads};
 ghost use Rattle.someipctl_recordings.specs.Heads.{line_len};
-ghost use Rattle.someipctl_io.specs.Words.{word_text};
+ghost use Rattle.someip_texts.specs.Words.{word_text};
 ghost use Rattle.std.specs.Net.Text.{socket_v4_text};
 
 use recording::{Datagram, Endpoint, Time};

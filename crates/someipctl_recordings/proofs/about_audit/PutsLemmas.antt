@@ -2,9 +2,10 @@
 use Rattle.std.proofs.Common.{◌≡◌, ℕ, false, true, List, [], ◌∷◌, ◌++◌, Option, Result, Ok, Err, ap, sym, ◌∙◌, append_assoc}
 use Rattle.std.proofs.lemmas.List.{append-nil}
 use Rattle.std.specs.Result.{IsErr}
+use Rattle.someip_texts.specs.Words.{spaced}
 use Rattle.someipctl_io.specs.declared.output.CannotWrite.{CannotWrite}
 use Rattle.someipctl_io.specs.Sending.{Sends, Stops}
-use Rattle.someipctl_io.specs.Words.{ended, spaced}
+use Rattle.someipctl_io.specs.Words.{ended}
 use Rattle.someipctl_io.proofs.SendingLemmas.{Sends-trans, Stops-after}
 use Rattle.someipctl_recordings.specs.declared.audit.kind.Kind.{Kind}
 use Rattle.someipctl_recordings.specs.audit.AuditText.{Puts}

@@ -13,7 +13,7 @@ use Rattle.someip_audit.specs.FellDues.{deadline}
 use Rattle.someip_audit.specs.Audits.{Report, fell, found}
 use Rattle.someipctl_io.specs.declared.CannotWrite.{CannotWrite}
 use Rattle.someipctl_io.specs.Sending.{Sends, Stops}
-use Rattle.someipctl_io.specs.Words.{spaced}
+use Rattle.someip_texts.specs.Words.{spaced}
 use Rattle.someipctl_recordings.specs.RecordedText.{time_text}
 use Rattle.someipctl_recordings.specs.declared.audit.kind.Kind.{Kind}
 use Rattle.someipctl_recordings.specs.audit.Kinds.{all_kinds, kind_number, kind_words}

@@ -23,8 +23,8 @@ use Rattle.someip_audit.specs.declared.Finding.{Finding}
 use Rattle.someip_audit.specs.declared.Finding.TheVariants as findings
 use Rattle.someip_audit.specs.declared.FellDue.{FellDue}
 use Rattle.someip_audit.specs.declared.FellDue.TheVariants as due
-use Rattle.someipctl_io.specs.Parts.{hex2, hex4}
-use Rattle.someipctl_io.specs.Words.{ended, ids_text}
+use Rattle.someip_texts.specs.Words.{hex2, hex4, ids_text}
+use Rattle.someipctl_io.specs.Words.{ended}
 use Rattle.someipctl_recordings.specs.declared.audit.kind.Kind.{Kind}
 use Rattle.someipctl_recordings.specs.declared.audit.kind.Kind.TheVariants as kinds
 use Rattle.someipctl_recordings.specs.audit.Kinds.{kind_words}

@@ -3,7 +3,7 @@ ghost use Rattle.std.specs.Prelude.{◌≡◌, ◌∷◌, [], OnErr, OnOk, Some,
 ghost use Rattle.std.specs.Net.Text.{socket_v4_text};
 ghost use Rattle.someipctl_io.specs.Sending.{Sends, Stops};
 ghost use Rattle.someip_audit.specs.FellDues.{deadline};
-ghost use Rattle.someipctl_io.specs.Words.{word_text};
+ghost use Rattle.someip_texts.specs.Words.{word_text};
 ghost use Rattle.someipctl_recordings.specs.audit.AuditText.{Puts, fell_line, found_line, head_text, origin_of_due, time_at};
 ghost use Rattle.someipctl_recordings.specs.audit.Said.{said, said_of_due};
 

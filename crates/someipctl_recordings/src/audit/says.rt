@@ -1,6 +1,6 @@
 //! What the line of a finding says.
 ghost use Rattle.std.specs.Prelude.{◌≡◌, ◌∷◌, codes, decimal, map};
-ghost use Rattle.someipctl_io.specs.Words.{word_text};
+ghost use Rattle.someip_texts.specs.Words.{word_text};
 ghost use Rattle.someipctl_recordings.specs.audit.AuditText.{Puts};
 ghost use Rattle.someipctl_recordings.specs.audit.Said.{call_words, fault_words, full, header_words, offer_words, said};
 ghost use Rattle.someipctl_recordings.specs.audit.Said.{said_of_call, said_of_due, subscription_words};

@@ -1,6 +1,6 @@
 use Rattle.std.proofs.Common.{ap, map}
 use Rattle.std.proofs.lemmas.List.{drop_more}
-use Rattle.someipctl_io.specs.Words.{word_text, spaced}
+use Rattle.someip_texts.specs.Words.{spaced, word_text}
 use Rattle.someipctl_io.proofs.SendingLemmas.{OnErr-any, IsSending-more, IsSending-stop}
 use Rattle.someipctl_io.proofs.words.put_words.Goals as goal
 

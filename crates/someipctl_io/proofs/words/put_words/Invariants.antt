@@ -1,5 +1,5 @@
 use Rattle.std.proofs.Common.{drop, map}
-use Rattle.someipctl_io.specs.Words.{word_text, spaced}
+use Rattle.someip_texts.specs.Words.{spaced, word_text}
 use Rattle.someipctl_io.proofs.SendingLemmas.{IsSending}
 use Rattle.someipctl_io.proofs.words.put_words.Given as goal
 

@@ -1,5 +1,5 @@
 use Rattle.std.proofs.Common.{map, refl}
-use Rattle.someipctl_io.specs.Words.{word_text}
+use Rattle.someip_texts.specs.Words.{word_text}
 use Rattle.someipctl_io.proofs.SendingLemmas.{Sends-trans, Stops-after, Stops-before}
 use Rattle.someipctl_recordings.specs.audit.Kinds.{kind_words}
 use Rattle.someipctl_recordings.proofs.about_audit.PutsLemmas.{ended_words, puts_err}

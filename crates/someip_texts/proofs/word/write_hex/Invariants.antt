@@ -2,7 +2,7 @@ use Rattle.std.proofs.Common.{◌∷◌, [], take}
 use Rattle.std.specs.List.{flat_map}
 use Rattle.std.specs.Fmt.{HasWritten, IsPlainFormatter}
 use Rattle.hex.specs.Hex.{encode_lower}
-use Rattle.someip_node_rules.proofs.output_text.write_hex.Given as goal
+use Rattle.someip_texts.proofs.word.write_hex.Given as goal
 
 -- the text of each byte so far was written
 abbrev pub invariant-loop-byte : goal.invariant-loop-byte

@@ -3,8 +3,8 @@ use Rattle.std.proofs.Output.{has_written_of_eq}
 use Rattle.std.proofs.lemmas.List.{take_all}
 use Rattle.std.specs.List.{flat_map}
 use Rattle.hex.specs.Hex.{encode_lower}
-use Rattle.someip_node_rules.proofs.texts.HexTexts.{each_byte}
-use Rattle.someip_node_rules.proofs.output_text.write_hex.Goals as goal
+use Rattle.someip_texts.proofs.HexTexts.{each_byte}
+use Rattle.someip_texts.proofs.word.write_hex.Goals as goal
 
 pub returns : goal.returns
 returns g c p done =

@@ -1,3 +1,0 @@
--- Texts of outputs.
-pub mod HexTexts
-pub mod OutputTexts
