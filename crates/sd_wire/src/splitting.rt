@@ -18,7 +18,8 @@ use crate::option_writing::option_len;
 use crate::packing::place_entry;
 use std::alloc::Global;
 
-/// The most bytes of a message that the entries are split for.
+/// The most bytes of the payload of a message that the entries are split for. It is our own choice below
+/// the MTU of Ethernet, and not the standard's.
 const MOST_BYTES: usize = 1400;
 
 /// The bytes of a message without entries.

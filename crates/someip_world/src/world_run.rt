@@ -95,13 +95,13 @@ pub fn run<R: Reassembly>(alloc: Global, setup: &Setup, steps: &[Step]) -> Resul
     // The verdict is that on this run: the first step that breaks clean reuse is named, if one does.
     ensures verdict { IfOk result
         (λ trace. IsVerdictOn setup.now.nodes steps.now trace.lines.items trace.verdict) }
-    // Up to that step, or in all steps, answers and events are safe that came from no liar, and
+    // Before that step, or in all steps, answers and events are safe that came from no liar, and
     // subscriptions at servers that are none: those of the steps, and those that the lines tell, each of
     // which its node gave in the step of its index. In all steps nodes publish to those who are subscribed,
     // and known offers of peers that are no liars are configured.
     ensures safe_among_liars { IfOk result
         (λ trace. IsSafeAmongLiarsOn setup.now.nodes steps.now trace.lines.items trace.verdict) }
-    // Without liars all answers, events and subscriptions are safe so up to that step, or in all steps, and
+    // Without liars all answers, events and subscriptions are safe so before that step, or in all steps, and
     // those of the lines; in all, publications go to those who are subscribed, and known offers are
     // configured.
     ensures safe { IfOk result (λ trace. HasNoLiars setup.now.nodes
