@@ -1,15 +1,15 @@
 -- The order of instances is total, and only equal ones tie.
-use Rattle.std.proofs.Common.{ℕ, ap}
-use Rattle.std.specs.Ordering.{nat_cmp}
-use Rattle.std.specs.Cmp.{IsTotalOrder, nat_cmp_total}
-use Rattle.std.proofs.lemmas.Cmp.{on_total, then_total}
-use Rattle.std.proofs.lemmas.Map.Lookups.{CmpEqualImpliesEq, exact_pairs, exact_unsigned}
-use Rattle.sd_core.specs.declared.keys.InstanceId.{InstanceId}
+use Rattle.std.proofs.Common.{refl}
+use Rattle.std.specs.Cmp.{IsTotalOrder}
+use Rattle.std.proofs.lemmas.Map.Lookups.{CmpEqualImpliesEq}
+use Rattle.someip_tables.specs.Orders.{KeyOrder, numbers, by_pair, by_parts}
 use Rattle.sd_core.specs.Keys.{instance_cmp}
 
+pub instances : KeyOrder instance_cmp
+instances = by_parts (by_pair numbers numbers) (λ i. (i.service, i.instance)) (λ p. record { service = p.0; instance = p.1 }) (λ _. refl)
+
 pub instances_total : IsTotalOrder instance_cmp
-instances_total = then_total (on_total (λ (i : InstanceId). i.service) nat_cmp_total) (on_total (λ (i : InstanceId). i.instance) nat_cmp_total)
+instances_total = instances.total
 
 pub exact_instances : CmpEqualImpliesEq instance_cmp
-exact_instances a b h =
-    ap (λ (p : ℕ × ℕ). record { service = p.0; instance = p.1 }) (exact_pairs nat_cmp nat_cmp exact_unsigned exact_unsigned (a.service, a.instance) (b.service, b.instance) h)
+exact_instances = instances.exact

@@ -1,26 +1,21 @@
 -- The order of reassembly keys is total, and tells all apart.
-use Rattle.std.proofs.Common.{◌≡◌, ℕ, Bool, true, false, List, ap, sym, ◌∙◌, refl}
-use Rattle.std.specs.Ordering.{nat_cmp, ordering_then, is_eq}
+use Rattle.std.proofs.Common.{◌≡◌, Bool, true, false, ap, sym, ◌∙◌, refl}
+use Rattle.std.specs.Ordering.{is_eq}
 use Rattle.std.specs.Cmp.{IsTotalOrder, Equal-is, tied_itself}
-use Rattle.std.specs.Cmp.Lexicographic.{slice_cmp}
-use Rattle.std.proofs.lemmas.Cmp.{on_total, then_total, nat_list_cmp_total}
-use Rattle.std.proofs.lemmas.Map.Lookups.{CmpEqualImpliesEq, exact_pairs, exact_bytes}
-use Rattle.std.specs.declared.net.socket_addr.SocketAddrV4.{SocketAddrV4}
-use Rattle.someip_tables.specs.Endpoints.{endpoint_cmp}
-use Rattle.someip_tables.specs.EndpointOrder.{endpoints_total, exact_endpoints}
+use Rattle.std.proofs.lemmas.Map.Lookups.{CmpEqualImpliesEq}
+use Rattle.someip_tables.specs.Orders.{KeyOrder, slices, by_pair, by_parts}
+use Rattle.someip_tables.specs.EndpointOrder.{endpoints}
 use Rattle.someip_reassembly.specs.declared.key.ReassemblyKey.{ReassemblyKey}
 use Rattle.someip_reassembly.specs.Keys.{key_numbers, key_cmp, same_key, key_of, key_back}
 
+pub keys : KeyOrder key_cmp
+keys = by_parts (by_pair endpoints (by_pair endpoints slices)) (λ k. (k.source, (k.destination, key_numbers k))) key_of key_back
+
 pub keys_total : IsTotalOrder key_cmp
-keys_total = then_total (on_total (λ k. k.source) endpoints_total) (then_total (on_total (λ k. k.destination) endpoints_total) (on_total key_numbers nat_list_cmp_total))
+keys_total = keys.total
 
 pub exact_keys : CmpEqualImpliesEq key_cmp
-exact_keys a b h =
-    let rest = exact_pairs endpoint_cmp (slice_cmp nat_cmp) exact_endpoints exact_bytes in
-    sym (key_back a)
-    ∙ (ap key_of (exact_pairs endpoint_cmp (λ (x y : SocketAddrV4 × List ℕ). ordering_then (endpoint_cmp x.0 y.0) (slice_cmp nat_cmp x.1 y.1)) exact_endpoints rest
-    (a.source, (a.destination, key_numbers a)) (b.source, (b.destination, key_numbers b)) h)
-    ∙ key_back b)
+exact_keys = keys.exact
 
 -- two keys are the same exactly where the test says so
 pub same_from_test : (a b : ReassemblyKey) → same_key a b ≡ true → a ≡ b

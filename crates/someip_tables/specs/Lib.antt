@@ -6,6 +6,7 @@ pub mod Waits
 pub mod Distinct
 pub mod SortedSet
 pub mod Endpoints
+pub mod Orders
 pub mod EndpointOrder
 pub mod Tables
 pub mod Lastings

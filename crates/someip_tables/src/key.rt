@@ -2,8 +2,8 @@
 ghost use Rattle.std.specs.Prelude.{◌≡◌, ◌↔◌, IsTrue};
 ghost use Rattle.std.specs.Ordering.{eq_by_cmp};
 ghost use Rattle.std.specs.declared.cmp.Ordering.TheVariants.{Equal};
-ghost use Rattle.std.proofs.lemmas.Map.Lookups.{exact_unsigned};
-ghost use Rattle.someip_tables.specs.EndpointOrder.{exact_addresses, exact_endpoints, exact_pair};
+ghost use Rattle.std.proofs.lemmas.Map.Lookups.{exact_pairs, exact_unsigned};
+ghost use Rattle.someip_tables.specs.EndpointOrder.{exact_addresses, exact_endpoints};
 
 use std::net::{Ipv4Addr, SocketAddrV4};
 
@@ -47,5 +47,5 @@ impl Key for SocketAddrV4 {
 
 /// By the first, and then by the second.
 impl<A: Key, B: Key> Key for (A, B) {
-    ghost exact = { exact_pair A.cmp B.cmp A.exact B.exact };
+    ghost exact = { exact_pairs A.cmp B.cmp A.exact B.exact };
 }

@@ -6,14 +6,14 @@ use Rattle.std.specs.declared.cmp.Ordering.{Ordering}
 use Rattle.std.specs.declared.cmp.Ordering.TheVariants.{Less, Equal, Greater}
 use Rattle.std.specs.Ordering.{eq_by_cmp, is_eq, ordering_then}
 use Rattle.std.specs.Cmp.{IsTotalOrder}
-use Rattle.std.proofs.lemmas.Cmp.{on_total, then_total}
 use Rattle.std.proofs.lemmas.Map.Lookups.{CmpEqualImpliesEq}
 use Rattle.std.specs.BTreeMap as tree
 use Rattle.std.specs.BTreeMap.{BTreeMap, btree_map_len, IsOrdered}
 use Rattle.std.specs.FinMap as finite
 use Rattle.std.specs.declared.net.ipv4_addr.Ipv4Addr.{Ipv4Addr}
 use Rattle.someip_tables.specs.Endpoints.{address_cmp}
-use Rattle.someip_tables.specs.EndpointOrder.{addresses_total, exact_addresses, exact_pair}
+use Rattle.someip_tables.specs.Orders.{KeyOrder, by_pair}
+use Rattle.someip_tables.specs.EndpointOrder.{addresses}
 use Rattle.someip_tables.specs.Tables.{map_of}
 use Rattle.someip_tables.proofs.Trees.{get-map_of, len-map_of}
 use Rattle.someip_tables.proofs.Entries.{len-retain_keys-≤}
@@ -23,11 +23,14 @@ use Rattle.sd_session.specs.Peers.{shows_reboot}
 use Rattle.audit_sd.specs.declared.sessions.message.SdMessage.{SdMessage}
 use Rattle.audit_sd.specs.sessions.SessionBooks.{Pairs, pair_cmp, is_other, last_of, may_hold, pairs_after}
 
+order : KeyOrder pair_cmp
+order = by_pair addresses addresses
+
 pub pairs_total : IsTotalOrder pair_cmp
-pairs_total = then_total (on_total (λ (p : Ipv4Addr × Ipv4Addr). p.0) addresses_total) (on_total (λ (p : Ipv4Addr × Ipv4Addr). p.1) addresses_total)
+pairs_total = order.total
 
 pub exact_pairs : CmpEqualImpliesEq pair_cmp
-exact_pairs = exact_pair address_cmp address_cmp exact_addresses exact_addresses
+exact_pairs = order.exact
 
 -- what is known of a pair
 pub known_is : (held : BTreeMap (Ipv4Addr × Ipv4Addr) Stamp) (pair : Ipv4Addr × Ipv4Addr) → tree.get pair_cmp held pair ≡ finite.get (map_of pair_cmp held.entries) pair

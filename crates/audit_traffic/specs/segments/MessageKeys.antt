@@ -1,15 +1,15 @@
 -- The order of reassembly keys, as keys of tables.
-use Rattle.std.proofs.Common.{ap, ℕ, List, [], ◌∷◌, ◌++◌}
+use Rattle.std.proofs.Common.{ℕ, List, [], ◌∷◌, ◌++◌, refl}
 use Rattle.std.specs.Hash as fed
 use Rattle.std.specs.Net.Socket.{v4_ip, v4_port}
 use Rattle.std.specs.Net.Addr.{ipv4_octets}
 use Rattle.std.specs.declared.cmp.Ordering.{Ordering}
 use Rattle.std.specs.Cmp.{IsTotalOrder}
-use Rattle.std.proofs.lemmas.Cmp.{on_total}
 use Rattle.std.proofs.lemmas.Map.Lookups.{CmpEqualImpliesEq}
+use Rattle.someip_tables.specs.Orders.{KeyOrder, by_parts}
 use Rattle.someip_reassembly.specs.declared.key.ReassemblyKey.{ReassemblyKey}
 use Rattle.someip_reassembly.specs.Keys.{key_cmp}
-use Rattle.someip_reassembly.proofs.KeyOrder.{keys_total, exact_keys}
+use Rattle.someip_reassembly.proofs.KeyOrder.{keys}
 use Rattle.audit_traffic.specs.declared.segments.key.MessageKey.{MessageKey}
 
 abbrev pub message_key : ReassemblyKey → MessageKey
@@ -18,11 +18,14 @@ message_key key = record { 0 = key }
 abbrev pub message_cmp : MessageKey → MessageKey → Ordering
 message_cmp a b = key_cmp a.0 b.0
 
+pub messages : KeyOrder message_cmp
+messages = by_parts keys (λ k. k.0) message_key (λ _. refl)
+
 pub messages_total : IsTotalOrder message_cmp
-messages_total = on_total (λ k. k.0) keys_total
+messages_total = messages.total
 
 pub exact_messages : CmpEqualImpliesEq message_cmp
-exact_messages a b h = ap message_key (exact_keys a.0 b.0 h)
+exact_messages = messages.exact
 
 -- what is hashed of a key: its endpoints and its IDs
 abbrev pub message_fed : MessageKey → List (List ℕ)
