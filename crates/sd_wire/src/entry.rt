@@ -59,18 +59,18 @@ impl SubscriptionCounter {
 #[derive(Clone, Copy, Debug, PartialEq, Eq)]
 pub enum ServiceKind {
     /// 00: a search for instances.
-    Find,
+    Find = 0x00,
     /// 01: an instance is offered, or with TTL 0 no longer.
-    Offer,
+    Offer = 0x01,
 }
 
 /// What an eventgroup entry is for.
 #[derive(Clone, Copy, Debug, PartialEq, Eq)]
 pub enum EventgroupKind {
     /// 06: a client subscribes, or with TTL 0 no longer.
-    Subscribe,
+    Subscribe = 0x06,
     /// 07: a server accepts a subscription, or with TTL 0 refuses it.
-    Ack,
+    Ack = 0x07,
 }
 
 /// An entry about an instance of a service (SOME/IP Service Discovery, "Entry Format").

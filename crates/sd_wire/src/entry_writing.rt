@@ -1,11 +1,11 @@
 //! The bytes of entries.
 ghost use Rattle.std.specs.Prelude.{◌≡◌, ◌<◌, ◌≤◌, ◌^◌, ◌+◌, ◌*◌, ◌++◌, ◌∷◌, length, take, drop};
-ghost use Rattle.sd_wire.specs.layout.Spelling.{RunsFit, service_type, eventgroup_type, entry_bytes, ServiceFits, EventgroupFits, HeadFits};
+ghost use Rattle.sd_wire.specs.layout.Spelling.{RunsFit, entry_bytes, ServiceFits, EventgroupFits, HeadFits};
 ghost use Rattle.sd_wire.specs.declared.entry.EntryHead.TheVariants.{Service, Eventgroup};
 ghost use Rattle.sd_wire.specs.layout.Fields.{number16, number24};
 ghost use Rattle.sd_wire.specs.encoding.Written.{view_runs};
 
-use crate::entry::{EntryHead, EventgroupEntry, EventgroupKind, ServiceEntry, ServiceKind};
+use crate::entry::{EntryHead, EventgroupEntry, ServiceEntry};
 use crate::ttl::Ttl;
 use byteorder::{BigEndian, ByteOrder};
 
@@ -16,26 +16,6 @@ pub(crate) struct RunFields {
     pub(crate) index2: u8,
     pub(crate) count1: u8,
     pub(crate) count2: u8,
-}
-
-/// The number of a service entry's type.
-fn service_byte(kind: ServiceKind) -> u8
-    ensures { result ≡ service_type kind }
-{
-    match kind {
-        ServiceKind::Find => 0x00,
-        ServiceKind::Offer => 0x01,
-    }
-}
-
-/// The number of an eventgroup entry's type.
-fn eventgroup_byte(kind: EventgroupKind) -> u8
-    ensures { result ≡ eventgroup_type kind }
-{
-    match kind {
-        EventgroupKind::Subscribe => 0x06,
-        EventgroupKind::Ack => 0x07,
-    }
 }
 
 /// Writes the type and the runs to the first four bytes.
@@ -74,7 +54,7 @@ fn service_text(entry: &ServiceEntry, runs: RunFields) -> [u8; 16]
     ensures fits { ServiceFits entry.now }
 {
     let mut text = [0; 16];
-    write_runs(&mut text, service_byte(entry.kind), runs);
+    write_runs(&mut text, entry.kind as u8, runs);
     write_ids(
         &mut text,
         entry.service,
@@ -94,7 +74,7 @@ fn eventgroup_text(entry: &EventgroupEntry, runs: RunFields) -> [u8; 16]
     ensures fits { EventgroupFits entry.now }
 {
     let mut text = [0; 16];
-    write_runs(&mut text, eventgroup_byte(entry.kind), runs);
+    write_runs(&mut text, entry.kind as u8, runs);
     write_ids(
         &mut text,
         entry.service,

@@ -1,7 +1,7 @@
 //! Why a Service Discovery message is not read or not written.
 //!
 //! A refused entry is printed by its number, `TooManyOptions in entry 18`: that is no place in bytes.
-ghost use Rattle.std.specs.Prelude.{◌≡◌};
+ghost use Rattle.std.specs.Prelude.{◌≡◌, ◌≢◌, Err, IfOk, OnErr, OnOk};
 ghost use Rattle.sd_wire.specs.decoding.Faults.{fault_name, fault_place};
 ghost use Rattle.sd_wire.specs.declared.error.SdError.TheVariants.{OutOfMemory};
 
@@ -67,6 +67,18 @@ impl SdError {
             | SdError::TooManyOptions(place)
             | SdError::TrailingBytes(place) => *place,
             SdError::OutOfMemory => 0,
+        }
+    }
+
+    /// What was done, or its fault, and out of memory apart from both.
+    pub fn apart<T>(done: Result<T, SdError>) -> Result<Result<T, SdError>, AllocError>
+        ensures done { IfOk result (λ apart. apart ≡ done) }
+        ensures fault { OnOk result (done ≢ Err OutOfMemory) }
+        ensures memory { OnErr result (done ≡ Err OutOfMemory) }
+    {
+        match done {
+            Err(SdError::OutOfMemory) => Err(AllocError),
+            done => Ok(done),
         }
     }
 }

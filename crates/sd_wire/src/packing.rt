@@ -1,10 +1,10 @@
 //! Entries and the pool of options that their runs are taken from.
-ghost use Rattle.std.specs.Prelude.{◌≡◌, ◌<◌, ◌≤◌, ◌*◌, length, map, [], IfOk, IfErr};
+ghost use Rattle.std.specs.Prelude.{◌≡◌, ◌<◌, ◌≤◌, ◌*◌, length, map, [], IfOk, IfErr, IfSome, IfNone};
 ghost use Rattle.std.specs.List.{AllByRecursion};
 ghost use Rattle.sd_wire.specs.contents.Values.{view_entry};
 ghost use Rattle.sd_wire.specs.layout.Spelling.{OptionFits, HeadFits};
-ghost use Rattle.sd_wire.specs.encoding.Writing.{PlacesEntry, Packs, pool_bytes};
-ghost use Rattle.sd_wire.specs.encoding.Written.{view_runs, IsPlaceError, IsPackError};
+ghost use Rattle.sd_wire.specs.encoding.Writing.{PlacesEntry, IsRefused, Packs, pool_bytes};
+ghost use Rattle.sd_wire.specs.encoding.Written.{view_runs, IsPackError};
 
 use crate::entry::Entry;
 use crate::entry_writing::{RunFields, entry_text};
@@ -20,40 +20,39 @@ const MOST_OPTIONS: usize = 15;
 /// The highest index of a run.
 const LAST_INDEX: usize = 255;
 
-/// Where the runs of the entry with this number stand in the pool, to which those are added that it
-/// does not hold.
+/// Where the runs of the entry stand in the pool, to which those are added that it does not hold. `None`
+/// where it has too many options.
 pub(crate) fn place_entry(
     pool: &mut Vec<SdOption>,
     entry: &Entry,
-    number: usize,
-) -> Result<RunFields, SdError>
-    ensures placed { IfOk result (λ runs. PlacesEntry pool.old.items (view_entry entry.now)
-        (view_runs runs) pool.new.items) }
-    ensures refused { IfErr result (λ e. IsPlaceError pool.old.items (view_entry entry.now) number
-        e) }
+) -> Result<Option<RunFields>, AllocError>
+    ensures placed { IfOk result (λ placed. IfSome placed (λ runs. PlacesEntry pool.old.items
+        (view_entry entry.now) (view_runs runs) pool.new.items)) }
+    ensures refused { IfOk result (λ placed. IfNone placed
+        (IsRefused pool.old.items (view_entry entry.now))) }
 {
     let count1 = entry.run1.len();
     let count2 = entry.run2.len();
     if count1 > MOST_OPTIONS {
-        return Err(SdError::TooManyOptions(number));
+        return Ok(None);
     }
     if count2 > MOST_OPTIONS {
-        return Err(SdError::TooManyOptions(number));
+        return Ok(None);
     }
     let index1 = place_run(pool, &entry.run1)?;
     if index1 > LAST_INDEX {
-        return Err(SdError::TooManyOptions(number));
+        return Ok(None);
     }
     let index2 = place_run(pool, &entry.run2)?;
     if index2 > LAST_INDEX {
-        return Err(SdError::TooManyOptions(number));
+        return Ok(None);
     }
-    Ok(RunFields {
+    Ok(Some(RunFields {
         index1: index1 as u8,
         index2: index2 as u8,
         count1: count1 as u8,
         count2: count2 as u8,
-    })
+    }))
 }
 
 /// The bytes of the entries, and the pool of their options.
@@ -70,8 +69,10 @@ pub(crate) fn pack(alloc: Global, entries: &[Entry]) -> Result<(Vec<u8>, Vec<SdO
     let mut pool = Vec::new(alloc);
     for k in 0..entries.len() {
         let entry = &entries[k];
-        let runs = place_entry(&mut pool, entry, k)?;
-        text.extend_from_slice(&entry_text(&entry.head, runs))?;
+        match place_entry(&mut pool, entry)? {
+            Some(runs) => text.extend_from_slice(&entry_text(&entry.head, runs))?,
+            None => return Err(SdError::TooManyOptions(k)),
+        }
     }
     Ok((text, pool))
 }

@@ -16,7 +16,7 @@ use crate::error::SdError;
 use crate::option::SdOption;
 use crate::option_writing::option_len;
 use crate::packing::place_entry;
-use std::alloc::Global;
+use std::alloc::{AllocError, Global};
 
 /// The most bytes of the payload of a message that the entries are split for. It is our own choice below
 /// the MTU of Ethernet, and not the standard's.
@@ -43,13 +43,13 @@ pub fn split_entries(alloc: Global, entries: &[Entry]) -> Result<Vec<usize>, SdE
         → IfOk result (λ answer. answer.items ≡ lengths) }
     ensures errors { IfErr result (λ e. e ≡ OutOfMemory) }
 {
-    split(alloc, entries)
+    let lengths = split(alloc, entries)?;
+    Ok(lengths)
 }
 
 /// The lengths of the longest fronts.
-fn split(alloc: Global, entries: &[Entry]) -> Result<Vec<usize>, SdError>
-    ensures fronts { IfOk result (λ lengths. AreFronts (map view_entry entries.now) lengths.items) }
-    ensures errors { IfErr result (λ e. e ≡ OutOfMemory) }
+fn split(alloc: Global, entries: &[Entry]) -> Result<Vec<usize>, AllocError>
+    ensures { IfOk result (λ lengths. AreFronts (map view_entry entries.now) lengths.items) }
 {
     let mut lengths = Vec::new(alloc);
     let mut rest = entries;
@@ -63,10 +63,9 @@ fn split(alloc: Global, entries: &[Entry]) -> Result<Vec<usize>, SdError>
 }
 
 /// The length of the longest front of some entries.
-fn front(alloc: Global, entries: &[Entry]) -> Result<usize, SdError>
+fn front(alloc: Global, entries: &[Entry]) -> Result<usize, AllocError>
     requires { 1 ≤ length entries.now }
-    ensures front { IfOk result (λ n. IsLongestFront (map view_entry entries.now) n) }
-    ensures errors { IfErr result (λ e. e ≡ OutOfMemory) }
+    ensures { IfOk result (λ n. IsLongestFront (map view_entry entries.now) n) }
 {
     let mut pool = Vec::new(alloc);
     let mut size = EMPTY_LEN;
@@ -86,18 +85,16 @@ fn front(alloc: Global, entries: &[Entry]) -> Result<usize, SdError>
 
 /// Places an entry in the pool, and says how many bytes it adds to a message. None where it is
 /// refused.
-fn grow(pool: &mut Vec<SdOption>, entry: &Entry) -> Result<Option<usize>, SdError>
+fn grow(pool: &mut Vec<SdOption>, entry: &Entry) -> Result<Option<usize>, AllocError>
     requires { length pool.old.items ≤ 270 }
     ensures grown { IfOk result (λ bytes. IsGrown pool.old.items (view_entry entry.now) bytes
         pool.new.items) }
     ensures most { IfOk result (λ added. IfSome added (λ bytes. bytes < 2 ^ 32)) }
-    ensures errors { IfErr result (λ e. e ≡ OutOfMemory) }
 {
     let held = pool.len();
-    match place_entry(pool, entry, 0) {
-        Ok(_) => Ok(Some(ENTRY_LEN + options_len(&pool[held..]))),
-        Err(SdError::OutOfMemory) => Err(SdError::OutOfMemory),
-        Err(_) => Ok(None),
+    match place_entry(pool, entry)? {
+        Some(_) => Ok(Some(ENTRY_LEN + options_len(&pool[held..]))),
+        None => Ok(None),
     }
 }
 

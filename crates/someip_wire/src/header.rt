@@ -17,25 +17,25 @@ ghost use Rattle.someip_wire.specs.Discovery.{is_discovery};
 #[derive(Clone, Copy, Debug, PartialEq, Eq)]
 pub enum MessageType {
     /// 00, a call that waits for an answer.
-    Request,
+    Request = 0x00,
     /// 01, a call without an answer.
-    RequestNoReturn,
+    RequestNoReturn = 0x01,
     /// 02, an event.
-    Notification,
+    Notification = 0x02,
     /// 80, the answer to a call.
-    Response,
+    Response = 0x80,
     /// 81, the answer to a call that failed.
-    Error,
+    Error = 0x81,
     /// 20, a segment of a REQUEST.
-    TpRequest,
+    TpRequest = 0x20,
     /// 21, a segment of a REQUEST_NO_RETURN.
-    TpRequestNoReturn,
+    TpRequestNoReturn = 0x21,
     /// 22, a segment of a NOTIFICATION.
-    TpNotification,
+    TpNotification = 0x22,
     /// A0, a segment of a RESPONSE.
-    TpResponse,
+    TpResponse = 0xa0,
     /// A1, a segment of an ERROR.
-    TpError,
+    TpError = 0xa1,
 }
 
 impl MessageType {
@@ -43,18 +43,7 @@ impl MessageType {
     pub fn number(self) -> u8
         ensures { result ≡ kind_byte self }
     {
-        match self {
-            MessageType::Request => 0x00,
-            MessageType::RequestNoReturn => 0x01,
-            MessageType::Notification => 0x02,
-            MessageType::Response => 0x80,
-            MessageType::Error => 0x81,
-            MessageType::TpRequest => 0x20,
-            MessageType::TpRequestNoReturn => 0x21,
-            MessageType::TpNotification => 0x22,
-            MessageType::TpResponse => 0xa0,
-            MessageType::TpError => 0xa1,
-        }
+        self as u8
     }
 
     /// Whether the TP flag is set: the message is a segment.

@@ -7,14 +7,13 @@ use Rattle.sd_wire.specs.declared.endpoint.Ipv6Endpoint.{Ipv6Endpoint}
 use Rattle.sd_wire.specs.declared.option.SdOption.{SdOption}
 use Rattle.sd_wire.specs.declared.option.SdOption.TheVariants.{LoadBalancing, Endpoint4, Multicast4, SdEndpoint4, Endpoint6, Multicast6, SdEndpoint6, Raw}
 use Rattle.std.specs.Net.Addr.{octets_of}
-use Rattle.sd_wire.specs.declared.error.SdError.{SdError}
 use Rattle.sd_wire.specs.declared.error.SdError.TheVariants as errors
 use Rattle.sd_wire.specs.declared.entry.Entry.{Entry}
 use Rattle.sd_wire.specs.layout.Fields.{number16}
 use Rattle.sd_wire.specs.contents.Values.{EntryValue, view_entry}
 use Rattle.sd_wire.specs.layout.Spelling.{ipv4_bytes, ipv6_bytes, option_bytes, Ipv4Fits, Ipv6Fits, OptionFits, Runs, entry_bytes, HeadFits}
-use Rattle.sd_wire.specs.encoding.Writing.{Stands, PlacesEntry, Packs, pool_bytes}
-use Rattle.sd_wire.specs.encoding.Written.{IsPlaceError, IsPackError}
+use Rattle.sd_wire.specs.encoding.Writing.{IsRefused, Stands, PlacesEntry, Packs, pool_bytes}
+use Rattle.sd_wire.specs.encoding.Written.{IsPackError}
 use Rattle.sd_wire.proofs.spelled.FieldLemmas.{length-octets_of}
 
 abbrev Pool : Type 0
@@ -138,25 +137,19 @@ pub length_view : (entries : List Entry) → length (map view_entry entries) ≡
 length_view [] = refl
 length_view (e ∷ entries) = omega (arith, length_view entries)
 
-pub packed_error : (entries : List Entry) (k : ℕ) (text : List ℕ) (pool : Pool) (e : Entry) (err : SdError) → k < length entries → e ≡ get_or entries k e → PackedUpTo entries k text pool → IsPlaceError pool (view_entry e) k err
-    → IsPackError (map view_entry entries) err
-packed_error entries k text pool e errors.OutOfMemory lt is h bad = tt
-packed_error entries k text pool e (errors.TooManyOptions n) lt is h bad = record {
+pub packed_error : (entries : List Entry) (k : ℕ) (text : List ℕ) (pool : Pool) (e : Entry) → k < length entries → e ≡ get_or entries k e → PackedUpTo entries k text pool → IsRefused pool (view_entry e)
+    → IsPackError (map view_entry entries) (errors.TooManyOptions k)
+packed_error entries k text pool e lt is h refused = record {
   front = map view_entry (take k entries);
   e = view_entry e;
   back = map view_entry (drop (k + 1) entries);
   is = split_at entries k e lt is;
-  counted = omega (arith, length_view (take k entries), length-take k entries, bad.0);
+  counted = omega (arith, length_view (take k entries), length-take k entries);
   text = text;
   pool = pool;
   packs = h.packs;
-  refused = bad.1;
+  refused = refused;
 }
-packed_error entries k text pool e (errors.Truncated p) lt is h bad = bad
-packed_error entries k text pool e (errors.EntriesLength p) lt is h bad = bad
-packed_error entries k text pool e (errors.UnknownEntryType p) lt is h bad = bad
-packed_error entries k text pool e (errors.OptionLength p) lt is h bad = bad
-packed_error entries k text pool e (errors.TrailingBytes p) lt is h bad = bad
 
 -- ---- the text of a pool
 

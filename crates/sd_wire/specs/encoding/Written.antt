@@ -14,12 +14,6 @@ use Rattle.sd_wire.specs.encoding.Writing.{PlacesEntry, IsRefused, pool_bytes, T
 abbrev pub view_runs : RunFields → Runs
 view_runs r = record { index1 = r.index1; index2 = r.index2; count1 = r.count1; count2 = r.count2 }
 
--- why the entry with this number has no place in the pool
-abbrev pub IsPlaceError : List SdOption → EntryValue → ℕ → SdError → Type 0
-IsPlaceError pool e number errors.OutOfMemory = Unit {0}
-IsPlaceError pool e number (errors.TooManyOptions n) = (n ≡ number) × IsRefused pool e
-IsPlaceError pool e number other = ⊥
-
 -- why entries are not packed
 abbrev pub IsPackError : List EntryValue → SdError → Type 0
 IsPackError entries errors.OutOfMemory = Unit {0}

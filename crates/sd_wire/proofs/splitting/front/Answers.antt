@@ -9,8 +9,8 @@ overflow_add-size c =
     let most = rw c.in-Some.is at c.in_ok-bytes.ensures.most in
     omega (arith, most, c.loop-k.invariant.fits)
 
-pub returns-then-size-gt-MOST_BYTES-clause-front : goal.returns-then-size-gt-MOST_BYTES-clause-front
-returns-then-size-gt-MOST_BYTES-clause-front c =
+pub returns-then-size-gt-MOST_BYTES : goal.returns-then-size-gt-MOST_BYTES
+returns-then-size-gt-MOST_BYTES c =
     let entries = c.args.entries.now in
     let e = c.index-entries-k.result in
     let grown = rw c.in-Some.is at c.in_ok-bytes.ensures.grown in
@@ -19,8 +19,8 @@ returns-then-size-gt-MOST_BYTES-clause-front c =
     full_here (map view_entry entries) c.loop-k.k c.max.result (view_entry e) (map view_entry (drop (c.loop-k.k + 1) entries)) c.loop-k.pool.items c.grow.new.pool.items c.loop-k.size c.in-Some.bytes grown.0.0 c.loop-k.invariant
     (at_entry entries c.loop-k.k e c.loop-k-test.true c.index-entries-k.is) lt grown.0.1 grown.1 over c.max.ensures
 
-pub returns-in-None-clause-front : goal.returns-in-None-clause-front
-returns-in-None-clause-front c =
+pub returns-in-None : goal.returns-in-None
+returns-in-None c =
     let entries = c.args.entries.now in
     let e = c.index-entries-k.result in
     let grown = rw c.in-None.is at c.in_ok-bytes.ensures.grown in
@@ -38,8 +38,8 @@ loop-k-preserved c =
     front_more (map view_entry entries) c.loop-k.k (view_entry e) c.loop-k.pool.items c.grow.new.pool.items c.loop-k.size c.in-Some.bytes grown.0.0 c.loop-k.invariant
     (next_entry entries c.loop-k.k e c.loop-k-test.true c.index-entries-k.is) lt grown.0.1 grown.1 fits
 
-pub returns-clause-front : goal.returns-clause-front
-returns-clause-front c =
+pub returns : goal.returns
+returns c =
     let entries = c.args.entries.now in
     let len = length_view entries in
     rw (← len) (all_here (map view_entry entries) c.loop-k.k c.loop-k.pool.items c.loop-k.size c.loop-k.invariant (omega (arith, len, c.loop-k-test.false)) (omega (arith, len, c.requires)))
