@@ -219,7 +219,7 @@ fn begin(
     call: Call,
     peer: SocketAddrV4,
     now: Moment,
-) -> Result<u16, RpcError>
+) -> Result<u16, AllocError>
     requires few { finite.len (map_of call_cmp pending.old) ≤ 1024 }
     requires place { is_full call.kind (unexpired now (map_of call_cmp pending.old)) ≡ false }
     ensures few { finite.len (map_of call_cmp pending.new) ≤ 1024 }
@@ -234,7 +234,6 @@ fn begin(
           pending = map_of call_cmp pending.new;
           sessions = map_of message_cmp sessions.new.entries;
         }) }
-    ensures err { IfErr result (λ error. error ≡ RpcError.OutOfMemory) }
     ensures pending_kept { OnErr result (pending.new ≡ pending.old) }
     ensures sessions_kept { OnErr result (map_of message_cmp sessions.new.entries
         ≡ map_of message_cmp sessions.old.entries) }
@@ -252,9 +251,9 @@ fn begin(
     };
     match wait(pending, call.kind, key, awaited, rules.call_timeout_ms, now) {
         Ok(()) => Ok(session),
-        Err(_) => {
+        Err(error) => {
             put_back(sessions, call.message, last);
-            Err(RpcError::OutOfMemory)
+            Err(error)
         }
     }
 }

@@ -13,6 +13,7 @@ use crate::publication::Subscriber;
 use crate::service::ServiceRules;
 use someip_tables::{put_value, session_after_last, value_at};
 use someip_wire::{Header, Message, MessageType, ReturnCode};
+use std::alloc::AllocError;
 use std::collections::BTreeMap;
 
 impl ServiceRules {
@@ -91,14 +92,13 @@ pub(crate) fn next_event<'a>(
     rules: &ServiceRules,
     event: u16,
     payload: &'a [u8],
-) -> Result<Message<'a>, RpcError>
+) -> Result<Message<'a>, AllocError>
     ensures header { IfOk result (λ message. message.header ≡ event_header rules.now event
         (next_of (map_of event_cmp sessions.old.entries) (event_of rules.now event))) }
     ensures payload { IfOk result (λ message. message.payload.now ≡ payload.now) }
     ensures given { OnOk result (map_of event_cmp sessions.new.entries
         ≡ finite.insert (map_of event_cmp sessions.old.entries) (event_of rules.now event)
         (next_of (map_of event_cmp sessions.old.entries) (event_of rules.now event))) }
-    ensures err { IfErr result (λ error. error ≡ RpcError.OutOfMemory) }
     ensures grows { OnErr result
         (finite.get (map_of event_cmp sessions.old.entries) (event_of rules.now event) ≡ None) }
     ensures unchanged { OnErr result (map_of event_cmp sessions.new.entries

@@ -23,7 +23,7 @@ use crate::publication::{Publication, Subscriber};
 use crate::request::{Arrived, Asked, Reply, RequestFault};
 use crate::service::ServiceRules;
 use someip_wire::{Header, MessageType, ReturnCode};
-use std::alloc::Global;
+use std::alloc::{AllocError, Global};
 use std::collections::BTreeMap;
 use std::marker::Model;
 use std::net::SocketAddrV4;
@@ -106,7 +106,7 @@ impl ServerCore {
         let request = Asked::new(rules, from, header);
         match header.kind {
             MessageType::Request => match fault {
-                None => self.hand_up(request),
+                None => Ok(self.hand_up(request)?),
                 Some(fault) => Ok(Arrived::Refused(refusal(request, fault))),
             },
             MessageType::RequestNoReturn => match fault {
@@ -118,12 +118,11 @@ impl ServerCore {
     }
 
     /// Lets a request wait under the next token.
-    fn hand_up(&mut self, request: Asked) -> Result<Arrived, RpcError>
+    fn hand_up(&mut self, request: Asked) -> Result<Arrived, AllocError>
         requires { has_no_room self.old.requests self.old.next ≡ false }
         ensures token { IfOk result (λ arrived. arrived ≡ Arrived.Request self.old.next) }
         ensures waits { OnOk result (self.new
             ≡ after_arrival request (Arrived.Request self.old.next) self.old) }
-        ensures err { IfErr result (λ error. error ≡ RpcError.OutOfMemory) }
         ensures unchanged { OnErr result (self.new ≡ self.old) }
     {
         let token = self.next;
