@@ -18,7 +18,7 @@ use sd_wire::{ReadEntry, SdError, SdRead, read_sd};
 use someip_node_rules::{DropReason, Receiver};
 use someip_tp::Reassembly;
 use someip_wire::{Header, Message};
-use std::alloc::{AllocError, Global};
+use std::alloc::AllocError;
 use std::mem;
 use std::net::Ipv4Addr;
 
@@ -39,26 +39,8 @@ impl<R: Reassembly> Engine<R> {
         if !is_valid_discovery(&message.header) {
             return giving.dropped(DropReason::NotSd);
         }
-        let found = read_payload(self.alloc, message.payload)?;
-        self.found(peer, channel, message.header.session, found, giving)
-    }
-
-    /// A message was read, or has a fault.
-    fn found(
-        &mut self,
-        peer: Ipv4Addr,
-        channel: Channel,
-        session: u16,
-        found: Result<SdRead, SdError>,
-        giving: &mut Giving,
-    ) -> Result<(), AllocError>
-        ensures work { OnOk result (working self.new giving.new
-            ≡ run plain (reading_plan peer channel session (result_map_both view_sd (λ e. e) found))
-            (working self.old giving.old)) }
-        ensures config { self.new.config ≡ self.old.config }
-    {
-        match found {
-            Ok(read) => self.heard(peer, channel, session, &read, giving),
+        match SdError::apart(read_sd(self.alloc, message.payload))? {
+            Ok(read) => self.heard(peer, channel, message.header.session, &read, giving),
             Err(fault) => giving.dropped(DropReason::Sd(fault)),
         }
     }
@@ -119,14 +101,4 @@ fn is_valid_discovery(header: &Header) -> bool
     ensures { result ≡ is_valid_discovery header.now }
 {
     header.is_discovery() && header.session != 0
-}
-
-/// Reads a message, and keeps out of memory apart.
-fn read_payload(alloc: Global, payload: &[u8]) -> Result<Result<SdRead, SdError>, AllocError>
-    ensures { IfOk result (λ found. result_map_both view_sd (λ e. e) found ≡ reading payload.now) }
-{
-    match read_sd(alloc, payload) {
-        Err(SdError::OutOfMemory) => Err(AllocError),
-        found => Ok(found),
-    }
 }

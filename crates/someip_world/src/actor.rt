@@ -2,7 +2,6 @@
 ghost use Rattle.std.specs.Prelude.{◌≡◌, Bool, IfOk, IfErr};
 ghost use Rattle.someip_node_rules.specs.histories.History.{History};
 ghost use Rattle.someip_world_rules.specs.Deeds.{deed_at};
-ghost use Rattle.someip_world_rules.specs.declared.error.RunError.TheVariants as fault;
 ghost use Rattle.someip_world.specs.Acting.{Acts, actor_of};
 ghost use Rattle.someip_world.specs.Running.{IsStarted};
 
@@ -11,10 +10,9 @@ use crate::lying::lie;
 use crate::performing::{StepError, perform};
 use someip_node::{Node, Output};
 use someip_tp::Reassembly;
-use someip_world_rules::RunError;
 use someip_world_schedule::Step;
 use someip_world_setup::SetupNode;
-use std::alloc::Global;
+use std::alloc::{AllocError, Global};
 use std::net::Ipv4Addr;
 
 /// What stands at a place of the setup.
@@ -27,9 +25,8 @@ pub(crate) enum Actor<R: Reassembly> {
 }
 
 /// A node of a setup, started with its delay, or a liar of it.
-pub(crate) fn started<R: Reassembly>(alloc: Global, node: &SetupNode) -> Result<Actor<R>, RunError>
-    ensures ok { IfOk result (IsStarted node.now) }
-    ensures memory { IfErr result (λ error. error ≡ fault.OutOfMemory) }
+pub(crate) fn started<R: Reassembly>(alloc: Global, node: &SetupNode) -> Result<Actor<R>, AllocError>
+    ensures { IfOk result (IsStarted node.now) }
 {
     if node.is_liar {
         return Ok(Actor::Liar(node.config.address));
@@ -37,7 +34,7 @@ pub(crate) fn started<R: Reassembly>(alloc: Global, node: &SetupNode) -> Result<
     let config = node.config.clone()?;
     match Node::<R>::start(alloc, config, node.delay) {
         Ok(node) => Ok(Actor::Node(node)),
-        Err(_) => Err(RunError::OutOfMemory),
+        Err(_) => Err(AllocError),
     }
 }
 

@@ -46,10 +46,8 @@ fn inject(
     if DATAGRAM_LIMIT < payload.len() {
         return Err(StepError::Bad(StepFault::PayloadTooLong));
     }
-    match sent(alloc, from, to, payload) {
-        Ok(outputs) => Ok(outputs),
-        Err(_) => Err(StepError::OutOfMemory),
-    }
+    let outputs = sent(alloc, from, to, payload)?;
+    Ok(outputs)
 }
 
 /// The output of one datagram.

@@ -23,7 +23,7 @@ use someip_tables::is_same_key;
 use someip_tp::Reassembly;
 use someip_world_rules::StepFault;
 use someip_world_schedule::{MethodId, Step, StepPayload};
-use std::alloc::Global;
+use std::alloc::{AllocError, Global};
 use std::net::{Ipv4Addr, SocketAddrV4};
 
 /// Why a step gave no outputs.
@@ -34,6 +34,16 @@ pub(crate) enum StepError {
     Refused(NodeError),
     /// Memory ran out.
     OutOfMemory,
+}
+
+impl From<AllocError> for StepError {
+    ghost use Rattle.someip_world.specs.declared.performing.StepError.TheVariants.{OutOfMemory};
+
+    ghost from_gives = { λ _ error. error ≡ OutOfMemory };
+
+    fn from(_error: AllocError) -> StepError {
+        StepError::OutOfMemory
+    }
 }
 
 /// Does at a node what a step says, after the lines of the steps before it.
@@ -141,10 +151,8 @@ fn payload_within(
     if config.common.message_limit < payload.len() {
         return Err(StepError::Bad(StepFault::PayloadTooLong));
     }
-    match payload.to_payload(alloc) {
-        Ok(bytes) => Ok(bytes),
-        Err(_) => Err(StepError::OutOfMemory),
-    }
+    let bytes = payload.to_payload(alloc)?;
+    Ok(bytes)
 }
 
 /// Calls a method.

@@ -6,7 +6,6 @@ ghost use Rattle.someip_world_rules.specs.Liars.{HasNoLiars};
 ghost use Rattle.someip_world_safety.specs.CleanRuns.{IsCleanWhereCountedOnce};
 ghost use Rattle.someip_world_safety.specs.Safety.{IsSafeAmongLiarsOn, IsSafeOn};
 ghost use Rattle.someip_world.specs.Running.{AreStarted, Happens, IsTold, RunsOn};
-ghost use Rattle.someip_world_rules.specs.declared.error.RunError.TheVariants as fault;
 
 use crate::actor::{Actor, act, started};
 use crate::log::Log;
@@ -17,12 +16,11 @@ use someip_world_safety::safety::{runs_are_safe_by_their_verdict, runs_that_coun
 use someip_world_schedule::Step;
 use someip_world_setup::{Setup, SetupNode};
 use someip_world_verdict::verdict_on;
-use std::alloc::Global;
+use std::alloc::{AllocError, Global};
 
 /// The nodes of a setup, each started with its delay, and its liars, each in its place.
-fn start<R: Reassembly>(alloc: Global, nodes: &[SetupNode]) -> Result<Vec<Actor<R>>, RunError>
-    ensures ok { IfOk result (λ v. AreStarted nodes.now v.items) }
-    ensures memory { IfErr result (λ error. error ≡ fault.OutOfMemory) }
+fn start<R: Reassembly>(alloc: Global, nodes: &[SetupNode]) -> Result<Vec<Actor<R>>, AllocError>
+    ensures { IfOk result (λ v. AreStarted nodes.now v.items) }
 {
     let mut actors = Vec::new(alloc);
     for node in nodes {

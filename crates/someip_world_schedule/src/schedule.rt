@@ -86,8 +86,6 @@ fn step_of(alloc: Global, line: &[u8]) -> Result<Option<Step>, WordFault>
     if is_left_out(line) {
         return Ok(None);
     }
-    match step_of_line(alloc, text) {
-        Ok(step) => Ok(Some(step)),
-        Err(fault) => Err(fault),
-    }
+    let step = step_of_line(alloc, text)?;
+    Ok(Some(step))
 }

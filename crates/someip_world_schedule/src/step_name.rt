@@ -60,9 +60,5 @@ fn are_name_bytes(text: &[u8]) -> bool
 pub fn name(alloc: Global, word: &str) -> Result<NodeName, WordFault>
     ensures { IsReadOf (name_in word.now) result }
 {
-    match NodeName::read(alloc, word) {
-        Ok(Some(name)) => Ok(name),
-        Ok(None) => Err(WordFault::Bad),
-        Err(_) => Err(WordFault::OutOfMemory),
-    }
+    NodeName::read(alloc, word)?.ok_or(WordFault::Bad)
 }

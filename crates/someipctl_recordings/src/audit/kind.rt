@@ -105,25 +105,6 @@ impl Kind {
         ensures number { result ≡ kind_number self }
         ensures below { result < KIND_COUNT }
     {
-        match self {
-            Kind::Malformed => 0,
-            Kind::Reboot => 1,
-            Kind::SdSession => 2,
-            Kind::Unanswered => 3,
-            Kind::Late => 4,
-            Kind::Unasked => 5,
-            Kind::Repeated => 6,
-            Kind::KeyReused => 7,
-            Kind::EventRepeated => 8,
-            Kind::EventGap => 9,
-            Kind::EventUnsubscribed => 10,
-            Kind::Segments => 11,
-            Kind::SegmentsMissing => 12,
-            Kind::OfferExpired => 13,
-            Kind::OfferMoved => 14,
-            Kind::Nack => 15,
-            Kind::SubscribeUnanswered => 16,
-            Kind::Full => 17,
-        }
+        self as usize
     }
 }
