@@ -1,5 +1,5 @@
 -- At which ports and endpoints datagrams are looked at.
-use Rattle.std.specs.Prelude.{ℕ, ◌==◌, nat_lt, Bool, true, false, ◌||◌, if◌then◌else◌, List, Option, None, Some, is_some, refl}
+use Rattle.std.specs.Prelude.{ℕ, ◌==◌, nat_lt, Bool, true, ◌||◌, if◌then◌else◌, List, Option, None, Some, is_some, refl}
 use Rattle.std.specs.List.{list_any}
 use Rattle.std.specs.Coded.{Coded, code_by, coded×, coded_ℕ, coded_bool, coded_list, coded_option}
 use base.Stored.{coded_unit}
@@ -9,6 +9,7 @@ use Rattle.std.specs.declared.net.socket_addr.SocketAddrV4.{SocketAddrV4}
 use Rattle.std.specs.Net.Socket.{v4_port}
 use Rattle.someip_tables.specs.Endpoints.{coded_endpoint, endpoint_cmp}
 use Rattle.someip_tables.specs.declared.hashed.origin.Origin.{Origin}
+use Rattle.someip_tables.specs.hashed.Rooms.{told_when_full}
 use Rattle.someip_audit.specs.declared.finding.Finding.{Finding}
 use Rattle.someip_audit.specs.declared.finding.Finding.TheVariants.{EndpointsFull}
 
@@ -53,16 +54,11 @@ is_looked_at watched origin = is_at_discovery origin || is_asked watched.ports w
 abbrev pub is_passed_over : SocketAddrV4 → Watch → Bool
 is_passed_over endpoint watched = is_some watched.ports || is_some (finite.get watched.learnt endpoint)
 
--- that no more may be learnt is told once
-abbrev pub told_when_full : Bool → Option Finding
-told_when_full true = None
-told_when_full false = Some EndpointsFull
-
 -- what is told of an endpoint that an entry names
 abbrev pub told_of_endpoint : SocketAddrV4 → Watch → Option Finding
 told_of_endpoint endpoint watched =
     if is_passed_over endpoint watched then None
-    else if nat_lt (finite.len watched.learnt) watched.limit then None else told_when_full watched.told_full
+    else if nat_lt (finite.len watched.learnt) watched.limit then None else told_when_full EndpointsFull watched.told_full
 
 -- it is learnt, where one more may be
 abbrev pub once_named : SocketAddrV4 → Watch → Watch

@@ -5,10 +5,9 @@ ghost use Rattle.someip_tables.specs.Endpoints.{endpoint_cmp};
 ghost use Rattle.someip_tables.specs.Tables.{map_of};
 ghost use Rattle.someip_audit.specs.WatchedEndpoints.{is_asked, is_at_discovery, is_looked_at};
 ghost use Rattle.someip_audit.specs.WatchedEndpoints.{is_passed_over, once_named, told_of_endpoint};
-ghost use Rattle.someip_audit.specs.WatchedEndpoints.{told_when_full};
 
 use crate::finding::Finding;
-use someip_tables::hashed::{KeySet, Origin};
+use someip_tables::hashed::{KeySet, Origin, Room};
 use std::alloc::{AllocError, Global};
 use std::marker::Model;
 use std::net::SocketAddrV4;
@@ -24,9 +23,8 @@ type Learnt = KeySet<SocketAddrV4>;
 #[derive(Drop)]
 pub(crate) struct Watched {
     ports: Option<Vec<u16>>,
-    limit: usize,
+    room: Room,
     learnt: Learnt,
-    told_full: bool,
 }
 
 impl Model for Watched {
@@ -41,9 +39,9 @@ impl Model for Watched {
 
     ghost view = { λ w. record {
       ports = option_map (λ ports. ports.items) w.ports;
-      limit = w.limit;
+      limit = w.room.limit;
       learnt = map_of endpoint_cmp w.learnt;
-      told_full = w.told_full;
+      told_full = w.room.told_full;
     } };
 }
 
@@ -67,9 +65,8 @@ impl Watched {
         };
         Ok(Watched {
             ports,
-            limit,
+            room: Room::new(limit),
             learnt: KeySet::new(alloc),
-            told_full: false,
         })
     }
 
@@ -101,8 +98,8 @@ impl Watched {
         if self.passes_over(&endpoint) {
             return Ok(None);
         }
-        if !has_room(&self.learnt, self.limit) {
-            return Ok(self.tell_full());
+        if !has_room(&self.learnt, self.room.limit) {
+            return Ok(self.room.tell_full(Finding::EndpointsFull));
         }
         self.learnt.insert(endpoint)?;
         Ok(None)
@@ -113,18 +110,6 @@ impl Watched {
         ensures { result ≡ is_passed_over endpoint.now self.now }
     {
         self.ports.is_some() || self.learnt.contains(endpoint)
-    }
-
-    /// Says that no more may be learnt, once.
-    fn tell_full(&mut self) -> Option<Finding>
-        ensures told { result ≡ told_when_full self.old.told_full }
-        ensures after { self.new ≡ record self.old { told_full = true } }
-    {
-        if self.told_full {
-            return None;
-        }
-        self.told_full = true;
-        Some(Finding::EndpointsFull)
     }
 }
 

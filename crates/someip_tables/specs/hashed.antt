@@ -1,3 +1,4 @@
 pub mod Dues
 pub mod Origins
+pub mod Rooms
 pub mod EndpointNumbers

@@ -6,6 +6,7 @@
 //! - [`compare_endpoints`], [`is_same_endpoint`], [`number_of_endpoint`], [`is_same_address`], [`number_of_address`]:
 //!   endpoints and addresses as numbers;
 //! - [`Origin`]: the datagram of a recording that something came in;
+//! - [`Room`]: how many entries a table may hold, and whether it was told that it is full;
 //! - [`laws`]: what the definitions behind the contracts promise.
 
 mod due;
@@ -14,6 +15,7 @@ mod endpoint;
 mod key_set;
 pub mod laws;
 mod origin;
+mod room;
 mod tracked;
 
 pub use due::Due;
@@ -23,3 +25,4 @@ pub use endpoint::{
 };
 pub use key_set::KeySet;
 pub use origin::Origin;
+pub use room::Room;

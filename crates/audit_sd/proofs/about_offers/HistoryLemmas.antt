@@ -6,6 +6,7 @@ use Rattle.std.specs.FinMap as finite
 use Rattle.std.specs.declared.net.ipv4_addr.Ipv4Addr.{Ipv4Addr}
 use Rattle.std.specs.declared.net.socket_addr.SocketAddrV4.{SocketAddrV4}
 use Rattle.someip_tables.proofs.Entries.{get-retain, same_by_test}
+use Rattle.someip_tables.specs.hashed.Rooms.{may_hold, told_when_full}
 use Rattle.audit_sd.specs.declared.offers.entry.OfferEntry.{OfferEntry}
 use Rattle.audit_sd.specs.declared.offers.entry.Standing.{Standing}
 use Rattle.audit_sd.specs.declared.offers.finding.Finding.TheVariants.{Full, Moved}
@@ -13,7 +14,7 @@ use Rattle.audit_sd.specs.declared.offers.key.OfferKey.{OfferKey}
 use Rattle.audit_sd.specs.offers.OfferKeys.{offer_cmp}
 use Rattle.audit_sd.specs.offers.OfferOrder.{offers_total, exact_offers}
 use Rattle.audit_sd.specs.offers.OfferRules.{has_expired, is_of, is_renewed_by, moved_by, offered_at, sender_of, unless_expired, unless_of}
-use Rattle.audit_sd.specs.offers.OfferTables.{OfferTable, Offers, after_entry, after_offer, is_offered_by, may_hold, stopped, told_by, told_of_offer, told_when_full}
+use Rattle.audit_sd.specs.offers.OfferTables.{OfferTable, Offers, after_entry, after_offer, is_offered_by, stopped, told_by, told_of_offer}
 use Rattle.audit_sd.specs.offers.OfferHistories.{BeganAgain, Entry, Event, Shown, book_after, book_of, changed_by, offered, shown_by, shown_by_offer, standing_after, standing_in, without_expired}
 
 -- ---- one entry
@@ -120,7 +121,7 @@ told_offer limit events now entry (Some place) before fits = cases (may_hold (wi
     cases : (b : Bool)
         → (if b then record (without_expired now (book_of limit events)) { standing = finite.insert (without_expired now (book_of limit events)).standing entry.key (offered_at now entry place) }
         else record (without_expired now (book_of limit events)) { told_full = true }).told_full ≡ false
-        → (if b then moved_by entry place (finite.get (without_expired now (book_of limit events)).standing entry.key) else told_when_full (book_of limit events).told_full)
+        → (if b then moved_by entry place (finite.get (without_expired now (book_of limit events)).standing entry.key) else told_when_full Full (book_of limit events).told_full)
         ≡ moved_by entry place (unless_expired now (standing_in events entry.key))
     cases true still =
         ap (moved_by entry place) (get-retain offers_total exact_offers (book_of limit events).standing (λ _ offer. not (has_expired now offer)) entry.key ∙ ap (unless_expired now) (stands limit events entry.key before))
@@ -153,7 +154,7 @@ full_by_offer : (now : ℕ) (entry : OfferEntry) (place : Option SocketAddrV4) (
 full_by_offer now entry None book is = absurd (cc)
 full_by_offer now entry (Some place) book is = cases (may_hold book.limit book.standing entry.key) book.told_full is
   where
-    cases : (b t : Bool) → (if b then moved_by entry place (finite.get book.standing entry.key) else told_when_full t) ≡ Some Full
+    cases : (b t : Bool) → (if b then moved_by entry place (finite.get book.standing entry.key) else told_when_full Full t) ≡ Some Full
         → (t ≡ false) × ((if b then record book { standing = finite.insert book.standing entry.key (offered_at now entry place) } else record book { told_full = true }).told_full ≡ true)
     cases true t e = absurd (not_full entry place (finite.get book.standing entry.key) e)
     cases false true e = absurd (cc)

@@ -4,13 +4,14 @@ use Rattle.std.specs.Result.{IfOk, OnErr}
 use Rattle.std.proofs.lemmas.Bool.{ltb-true}
 use Rattle.std.specs.FinMap as finite
 use Rattle.someip_tables.proofs.MapLaws.{len-remove-≤}
+use Rattle.someip_tables.specs.hashed.Rooms.{may_hold}
 use Rattle.audit_sd.specs.declared.offers.entry.OfferEntry.{OfferEntry}
 use Rattle.audit_sd.specs.declared.offers.entry.Standing.{Standing}
 use Rattle.audit_sd.specs.declared.offers.key.OfferKey.{OfferKey}
 use Rattle.audit_sd.specs.offers.OfferKeys.{offer_cmp}
 use Rattle.audit_sd.specs.offers.OfferOrder.{offers_total, exact_offers}
 use Rattle.audit_sd.specs.offers.OfferRules.{sender_of}
-use Rattle.audit_sd.specs.offers.OfferTables.{Offers, is_offered_by, may_hold, stopped}
+use Rattle.audit_sd.specs.offers.OfferTables.{Offers, is_offered_by, stopped}
 
 -- none stand
 pub none_within : (offers : Offers) (limit : ℕ) → offers ≡ finite.empty → finite.len offers ≤ limit

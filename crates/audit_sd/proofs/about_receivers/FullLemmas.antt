@@ -2,20 +2,21 @@
 use Rattle.std.proofs.Common.{◌≡◌, ℕ, ◌==◌, nat_lt, Bool, true, false, if◌then◌else◌, Option, None, Some, refl}
 use Rattle.std.specs.FinMap as finite
 use Rattle.std.specs.declared.net.socket_addr.SocketAddrV4.{SocketAddrV4}
+use Rattle.someip_tables.specs.hashed.Rooms.{may_hold, told_when_full}
 use Rattle.audit_sd.specs.declared.subscriptions.entry.EntryKind.{EntryKind}
 use Rattle.audit_sd.specs.declared.subscriptions.entry.EntryKind.TheVariants.{Answer, Subscribe}
 use Rattle.audit_sd.specs.declared.receivers.delivery.Delivery.{Delivery}
 use Rattle.audit_sd.specs.declared.receivers.entry.ReceiverEntry.{ReceiverEntry}
 use Rattle.audit_sd.specs.declared.receivers.finding.Finding.TheVariants.{Full, Unsubscribed}
 use Rattle.audit_sd.specs.receivers.ReceiverRules.{standing_from}
-use Rattle.audit_sd.specs.receivers.ReceiverTables.{Receivers, after, after_entry, after_event, after_subscribe, is_passed_over, may_hold, told_by, told_of, told_of_event, told_of_subscribe, told_when_full, untold}
+use Rattle.audit_sd.specs.receivers.ReceiverTables.{Receivers, after, after_entry, after_event, after_subscribe, is_passed_over, told_by, told_of, told_of_event, told_of_subscribe, untold}
 
 subscribe_noted : (now : ℕ) (entry : ReceiverEntry) (place : Option SocketAddrV4) (book : Receivers) → told_of_subscribe entry.key place book ≡ Some Full
     → (book.told_full ≡ false) × ((after_subscribe now entry place book).told_full ≡ true)
 subscribe_noted now entry None book is = absurd (cc)
 subscribe_noted now entry (Some place) book is = cases (may_hold book.limit book.standing entry.key) book.told_full is
   where
-    cases : (b t : Bool) → (if b then None else told_when_full t) ≡ Some Full
+    cases : (b t : Bool) → (if b then None else told_when_full Full t) ≡ Some Full
         → (t ≡ false)
         × ((if b then record book { standing = finite.insert book.standing entry.key (standing_from now entry.ttl place); told = untold entry.key place book.told } else record book { told_full = true }).told_full ≡ true)
     cases true t e = absurd (cc)

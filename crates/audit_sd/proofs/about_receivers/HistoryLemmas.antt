@@ -8,6 +8,7 @@ use Rattle.someip_tables.specs.declared.lasting.Lasting.{Lasting}
 use Rattle.someip_tables.specs.Lastings.{unless_passed}
 use Rattle.someip_tables.proofs.Entries.{same_by_test}
 use Rattle.someip_tables.proofs.Expiry.{get-unexpired}
+use Rattle.someip_tables.specs.hashed.Rooms.{may_hold}
 use Rattle.audit_sd.specs.declared.subscriptions.entry.EntryKind.{EntryKind}
 use Rattle.audit_sd.specs.declared.subscriptions.entry.EntryKind.TheVariants.{Answer, Subscribe}
 use Rattle.audit_sd.specs.declared.subscriptions.key.SubscriptionKey.{SubscriptionKey}
@@ -17,7 +18,7 @@ use Rattle.audit_sd.specs.subscriptions.SubscribeRules.{is_of}
 use Rattle.audit_sd.specs.declared.receivers.delivery.Delivery.{Delivery}
 use Rattle.audit_sd.specs.declared.receivers.entry.ReceiverEntry.{ReceiverEntry}
 use Rattle.audit_sd.specs.receivers.ReceiverRules.{is_to, standing_from}
-use Rattle.audit_sd.specs.receivers.ReceiverTables.{Receivers, Subscriptions, acked, after, after_entry, after_event, after_subscribe, is_passed_over, may_hold, untold, without_expired}
+use Rattle.audit_sd.specs.receivers.ReceiverTables.{Receivers, Subscriptions, acked, after, after_entry, after_event, after_subscribe, is_passed_over, untold, without_expired}
 use Rattle.audit_sd.specs.receivers.ReceiverHistories.{BeganAgain, Delivered, Entry, Event, Shown, Withdrawn, book_after, book_of, changed_by, stands_after, standing_in, subscribed}
 
 -- ---- one entry

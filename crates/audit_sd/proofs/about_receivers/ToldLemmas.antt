@@ -9,6 +9,7 @@ use Rattle.someip_tables.specs.Lastings.{unless_passed}
 use Rattle.someip_tables.proofs.Entries.{own_test, same_by_test}
 use Rattle.someip_tables.proofs.Expiry.{get-unexpired}
 use Rattle.someip_tables.proofs.Members.{any_at, any_found, both_or_none}
+use Rattle.someip_tables.specs.hashed.Rooms.{may_hold}
 use Rattle.audit_sd.specs.declared.subscriptions.entry.EntryKind.{EntryKind}
 use Rattle.audit_sd.specs.declared.subscriptions.entry.EntryKind.TheVariants.{Answer, Subscribe}
 use Rattle.audit_sd.specs.declared.subscriptions.key.SubscriptionKey.{SubscriptionKey}
@@ -21,7 +22,7 @@ use Rattle.audit_sd.specs.declared.receivers.finding.Finding.TheVariants.{Full, 
 use Rattle.audit_sd.specs.receivers.DeliveryKeys.{delivery_cmp}
 use Rattle.audit_sd.specs.receivers.DeliveryOrder.{deliveries_total, exact_deliveries}
 use Rattle.audit_sd.specs.receivers.ReceiverRules.{goes_by, is_to, standing_from}
-use Rattle.audit_sd.specs.receivers.ReceiverTables.{Receivers, after, after_entry, after_event, after_subscribe, is_passed_over, is_subscribed, may_hold, told_of_event, untold, without_expired}
+use Rattle.audit_sd.specs.receivers.ReceiverTables.{Receivers, after, after_entry, after_event, after_subscribe, is_passed_over, is_subscribed, told_of_event, untold, without_expired}
 use Rattle.audit_sd.specs.receivers.ReceiverHistories.{BeganAgain, Delivered, Entry, Event, Shown, Withdrawn, book_after, book_of, changed_by, goes_by_standing, is_subscribed_in, is_told_by, is_told_in, key_in, keys_in, shown_by, standing_in, stands_after, subscribes_for}
 use Rattle.audit_sd.proofs.about_receivers.HistoryLemmas.{not_before, stands}
 use Rattle.audit_sd.proofs.about_receivers.SubscribedLemmas.{by_one, has_one}

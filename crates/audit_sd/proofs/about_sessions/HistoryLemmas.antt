@@ -6,13 +6,14 @@ use Rattle.std.specs.Ordering.{eq_by_cmp}
 use Rattle.std.specs.FinMap as finite
 use Rattle.std.specs.declared.net.ipv4_addr.Ipv4Addr.{Ipv4Addr}
 use Rattle.someip_tables.specs.Endpoints.{address_cmp}
+use Rattle.someip_tables.specs.hashed.Rooms.{may_hold, told_when_full}
 use Rattle.sd_session.specs.declared.stamp.Stamp.{Stamp}
 use Rattle.sd_session.specs.Peers.{shows_reboot}
 use Rattle.sd_session.specs.Sessions.{following, is_reboot}
 use Rattle.audit_sd.specs.declared.sessions.finding.Finding.TheVariants.{Reboot, NotNext, Full}
 use Rattle.audit_sd.specs.declared.sessions.message.SdMessage.{SdMessage}
 use Rattle.audit_sd.specs.sessions.SessionRules.{has_session, is_same_stamp, judged}
-use Rattle.audit_sd.specs.sessions.SessionBooks.{Pairs, Sessions, pair_cmp, last_of, may_hold, pairs_before, pairs_after, sessions_after, sessions_with, told_by, told_of, told_when_full}
+use Rattle.audit_sd.specs.sessions.SessionBooks.{Pairs, Sessions, pair_cmp, last_of, pairs_before, pairs_after, sessions_after, sessions_with, told_by, told_of}
 use Rattle.audit_sd.specs.sessions.Histories.{last_in, shown_after, sessions_of}
 use Rattle.audit_sd.proofs.about_sessions.PairLemmas.{pairs_total, exact_pairs, both_tie, after_grows}
 
@@ -64,7 +65,7 @@ kept limit (message ∷ earlier) fits sender destination = counted (has_session 
     counted : (h : Bool) → ((sessions_of limit earlier).told_full ≡ false → (s d : Ipv4Addr) → finite.get (sessions_of limit earlier).last (s, d) ≡ last_in earlier s d)
         → (if h then sessions_with message (sessions_of limit earlier) else sessions_of limit earlier).told_full ≡ false
         → finite.get (if h then sessions_with message (sessions_of limit earlier) else sessions_of limit earlier).last (sender, destination) ≡ shown h
-    counted true before still = cases (may_hold message (sessions_of limit earlier).limit (sessions_of limit earlier).last) before still
+    counted true before still = cases (may_hold (sessions_of limit earlier).limit (sessions_of limit earlier).last (message.from, message.to)) before still
     counted false before still = before still sender destination
 
 -- and tells of a message what these show
@@ -73,14 +74,14 @@ pub told : (limit : ℕ) (messages : List SdMessage) (message : SdMessage) → (
 told limit messages message fits = counted (has_session message.stamp) fits
   where
     cases : (b : Bool) → (if b then record (sessions_of limit messages) { last = pairs_after message (sessions_of limit messages).last } else record (sessions_of limit messages) { told_full = true }).told_full ≡ false
-        → (if b then judged (last_of message (sessions_of limit messages).last) message.stamp else told_when_full (sessions_of limit messages).told_full)
+        → (if b then judged (last_of message (sessions_of limit messages).last) message.stamp else told_when_full Full (sessions_of limit messages).told_full)
         ≡ judged (last_in messages message.from message.to) message.stamp
     cases true still = ap (λ v. judged v message.stamp) (kept limit messages still message.from message.to)
     cases false still = absurd (cc)
 
     counted : (h : Bool) → (if h then sessions_with message (sessions_of limit messages) else sessions_of limit messages).told_full ≡ false
         → (if h then told_of message (sessions_of limit messages) else None) ≡ (if h then judged (last_in messages message.from message.to) message.stamp else None)
-    counted true still = cases (may_hold message (sessions_of limit messages).limit (sessions_of limit messages).last) still
+    counted true still = cases (may_hold (sessions_of limit messages).limit (sessions_of limit messages).last (message.from, message.to)) still
     counted false still = refl
 
 -- so many messages make at most so many pairs, and a book for so many is never full
@@ -130,7 +131,7 @@ not_full (Some last) stamp is = cases (is_reboot last stamp) (is_same_stamp stam
 pub full_noted : (message : SdMessage) (book : Sessions) → told_by message book ≡ Some Full → (book.told_full ≡ false) × ((sessions_after message book).told_full ≡ true)
 full_noted message book is = counted (has_session message.stamp) is
   where
-    cases : (b t : Bool) → book.told_full ≡ t → (if b then judged (last_of message book.last) message.stamp else told_when_full t) ≡ Some Full
+    cases : (b t : Bool) → book.told_full ≡ t → (if b then judged (last_of message book.last) message.stamp else told_when_full Full t) ≡ Some Full
         → (t ≡ false) × ((if b then record book { last = pairs_after message book.last } else record book { told_full = true }).told_full ≡ true)
     cases true t now e = absurd (not_full (last_of message book.last) message.stamp e)
     cases false true now e = absurd (cc)
@@ -138,7 +139,7 @@ full_noted message book is = counted (has_session message.stamp) is
 
     counted : (h : Bool) → (if h then told_of message book else None) ≡ Some Full
         → (book.told_full ≡ false) × ((if h then sessions_with message book else book).told_full ≡ true)
-    counted true e = let found = cases (may_hold message book.limit book.last) book.told_full refl e in (found.0, found.1)
+    counted true e = let found = cases (may_hold book.limit book.last (message.from, message.to)) book.told_full refl e in (found.0, found.1)
     counted false e = absurd (cc)
 
 pub full_stays : (message : SdMessage) (book : Sessions) → book.told_full ≡ true → (sessions_after message book).told_full ≡ true
@@ -149,8 +150,8 @@ full_stays message book is = counted (has_session message.stamp)
     cases false = refl
 
     counted : (h : Bool) → (if h then sessions_with message book else book).told_full ≡ true
-    counted true = cases (may_hold message book.limit book.last)
+    counted true = cases (may_hold book.limit book.last (message.from, message.to))
     counted false = is
 
-pub full_told : (message : SdMessage) (book : Sessions) → has_session message.stamp ≡ true → may_hold message book.limit book.last ≡ false → book.told_full ≡ false → told_by message book ≡ Some Full
+pub full_told : (message : SdMessage) (book : Sessions) → has_session message.stamp ≡ true → may_hold book.limit book.last (message.from, message.to) ≡ false → book.told_full ≡ false → told_by message book ≡ Some Full
 full_told message book counted refused fits = rw (counted, refused, fits) refl

@@ -18,10 +18,11 @@ use Rattle.someip_tables.specs.Tables.{map_of}
 use Rattle.someip_tables.proofs.Trees.{get-map_of, len-map_of}
 use Rattle.someip_tables.proofs.Entries.{len-retain_keys-≤}
 use Rattle.someip_tables.proofs.MapLaws.{len-insert-≤}
+use Rattle.someip_tables.specs.hashed.Rooms.{may_hold}
 use Rattle.sd_session.specs.declared.stamp.Stamp.{Stamp}
 use Rattle.sd_session.specs.Peers.{shows_reboot}
 use Rattle.audit_sd.specs.declared.sessions.message.SdMessage.{SdMessage}
-use Rattle.audit_sd.specs.sessions.SessionBooks.{Pairs, pair_cmp, is_other, last_of, may_hold, pairs_after}
+use Rattle.audit_sd.specs.sessions.SessionBooks.{Pairs, pair_cmp, is_other, last_of, pairs_after}
 
 order : KeyOrder pair_cmp
 order = by_pair addresses addresses
@@ -86,7 +87,7 @@ after_grows message pairs =
     omega (arith, after_len message pairs, put)
 
 -- a book that took a message holds no more pairs than it may
-pub after_within : (message : SdMessage) (limit : ℕ) (pairs : Pairs) → finite.len pairs ≤ limit → may_hold message limit pairs ≡ true → finite.len (pairs_after message pairs) ≤ limit
+pub after_within : (message : SdMessage) (limit : ℕ) (pairs : Pairs) → finite.len pairs ≤ limit → may_hold limit pairs (message.from, message.to) ≡ true → finite.len (pairs_after message pairs) ≤ limit
 after_within message limit pairs few may =
     let put : finite.len (finite.insert pairs (message.from, message.to) message.stamp) ≤ limit = rw (finite.len-insert pairs_total pairs (message.from, message.to) message.stamp) (cases (is_some (last_of message pairs)) may) in
     omega (arith, after_len message pairs, put)
@@ -96,7 +97,7 @@ after_within message limit pairs few may =
     cases false m = let below : finite.len pairs < limit = ltb-true (finite.len pairs) limit m in omega (arith, below)
 
 -- whether or not there was memory for it
-pub entered_within : {T E : Type 0} (message : SdMessage) (limit : ℕ) (old new : Pairs) (result : Result T E) → finite.len old ≤ limit → may_hold message limit old ≡ true
+pub entered_within : {T E : Type 0} (message : SdMessage) (limit : ℕ) (old new : Pairs) (result : Result T E) → finite.len old ≤ limit → may_hold limit old (message.from, message.to) ≡ true
     → IfOk result (λ _. new ≡ pairs_after message old) → OnErr result (new ≡ old) → finite.len new ≤ limit
 entered_within message limit old new (Ok told) few may after err = rw after (after_within message limit old few may)
 entered_within message limit old new (Err e) few may after err = rw err few

@@ -5,6 +5,7 @@ use Rattle.std.specs.FinMap as finite
 use Rattle.std.specs.declared.net.ipv4_addr.Ipv4Addr.{Ipv4Addr}
 use Rattle.someip_tables.specs.Retained.{kept_if, retain}
 use Rattle.someip_tables.proofs.Entries.{get-retain, same_by_test}
+use Rattle.someip_tables.specs.hashed.Rooms.{may_hold, told_when_full}
 use Rattle.audit_sd.specs.declared.subscriptions.entry.Asked.{Asked}
 use Rattle.audit_sd.specs.declared.subscriptions.entry.EntryKind.{EntryKind}
 use Rattle.audit_sd.specs.declared.subscriptions.entry.EntryKind.TheVariants.{Answer, Subscribe}
@@ -14,7 +15,7 @@ use Rattle.audit_sd.specs.declared.subscriptions.key.SubscriptionKey.{Subscripti
 use Rattle.audit_sd.specs.subscriptions.SubscriptionKeys.{subscription_cmp}
 use Rattle.audit_sd.specs.subscriptions.SubscriptionOrder.{subscriptions_total, exact_subscriptions}
 use Rattle.audit_sd.specs.subscriptions.SubscribeRules.{asked_at, is_late, is_of, unless_late}
-use Rattle.audit_sd.specs.subscriptions.SubscribeTables.{SubscribeTable, Waiting, after, after_entry, after_subscribe, asks, may_hold, told_by, told_of, told_when_full, waiting_with}
+use Rattle.audit_sd.specs.subscriptions.SubscribeTables.{SubscribeTable, Waiting, after, after_entry, after_subscribe, asks, told_by, told_of, waiting_with}
 use Rattle.audit_sd.specs.subscriptions.SubscribeHistories.{BeganAgain, Entry, Event, Shown, book_after, book_of, changed_by, or_asked, waiting_in, waits_after, without_late}
 
 -- ---- one entry
@@ -145,7 +146,7 @@ full_by now entry Answer book is = absurd (never (entry.ttl == 0) is)
     never false e = cc
 full_by now entry Subscribe book is = cases (entry.ttl == 0) (may_hold book.limit book.waiting entry.key) book.told_full is
   where
-    cases : (z b t : Bool) → (if z || b then None else told_when_full t) ≡ Some Full
+    cases : (z b t : Bool) → (if z || b then None else told_when_full Full t) ≡ Some Full
         → (t ≡ false) × ((if z then book else if b then record book { waiting = waiting_with now book.answer_ms entry book.waiting } else record book { told_full = true }).told_full ≡ true)
     cases true b t e = absurd (cc)
     cases false true t e = absurd (cc)
@@ -159,7 +160,7 @@ pub full_told : (entry : SubscribeEntry) (book : SubscribeTable) → asks entry.
     → told_by entry book ≡ Some Full
 full_told entry book asked refused fits = by entry.kind asked
   where
-    cases : (z : Bool) → not z ≡ true → (if z || may_hold book.limit book.waiting entry.key then None else told_when_full book.told_full) ≡ Some Full
+    cases : (z : Bool) → not z ≡ true → (if z || may_hold book.limit book.waiting entry.key then None else told_when_full Full book.told_full) ≡ Some Full
     cases true e = absurd (cc)
     cases false e = rw (refused, fits) refl
 

@@ -3,12 +3,13 @@ use Rattle.std.proofs.Common.{◌≡◌, ℕ, ◌<◌, ◌≤◌, nat_lt, Bool, 
 use Rattle.std.specs.Result.{IfOk, OnErr}
 use Rattle.std.proofs.lemmas.Bool.{ltb-true}
 use Rattle.std.specs.FinMap as finite
+use Rattle.someip_tables.specs.hashed.Rooms.{may_hold}
 use Rattle.audit_sd.specs.declared.subscriptions.entry.Asked.{Asked}
 use Rattle.audit_sd.specs.declared.subscriptions.entry.SubscribeEntry.{SubscribeEntry}
 use Rattle.audit_sd.specs.subscriptions.SubscriptionKeys.{subscription_cmp}
 use Rattle.audit_sd.specs.subscriptions.SubscriptionOrder.{subscriptions_total}
 use Rattle.audit_sd.specs.subscriptions.SubscribeRules.{asked_at}
-use Rattle.audit_sd.specs.subscriptions.SubscribeTables.{Waiting, may_hold, waiting_with}
+use Rattle.audit_sd.specs.subscriptions.SubscribeTables.{Waiting, waiting_with}
 
 -- none wait
 pub none_within : (waiting : Waiting) (limit : ℕ) → waiting ≡ finite.empty → finite.len waiting ≤ limit

@@ -1,5 +1,5 @@
 -- The offers that stand.
-use Rattle.std.specs.Prelude.{◌≡◌, ℕ, ◌==◌, ◌≤◌, nat_lt, Bool, true, false, not, ◌&&◌, ◌||◌, if◌then◌else◌, Option, None, Some, is_some, refl}
+use Rattle.std.specs.Prelude.{◌≡◌, ℕ, ◌==◌, ◌≤◌, Bool, true, false, not, ◌&&◌, if◌then◌else◌, Option, None, Some, is_some, refl}
 use Rattle.std.specs.Coded.{Coded, code_by, coded×, coded_ℕ, coded_bool}
 use Rattle.std.specs.FinMap as finite
 use Rattle.std.specs.FinMap.{FinMap}
@@ -13,6 +13,7 @@ use Rattle.someip_tables.specs.hashed.Dues.{IsFirstDue}
 use Rattle.audit_sd.specs.declared.offers.entry.OfferEntry.{OfferEntry}
 use Rattle.someip_tables.specs.declared.hashed.origin.Origin.{Origin}
 use Rattle.someip_tables.specs.hashed.Origins.{coded_origin}
+use Rattle.someip_tables.specs.hashed.Rooms.{may_hold, told_when_full}
 use Rattle.audit_sd.specs.declared.offers.entry.Standing.{Standing}
 use Rattle.audit_sd.specs.declared.offers.finding.Expired.{Expired}
 use Rattle.audit_sd.specs.declared.offers.finding.Finding.{Finding}
@@ -33,21 +34,12 @@ pub record OfferTable : Type 0 where
 
 -- ---- an entry
 
--- an offer may be held: one stands under its key, or fewer stand than the limit
-abbrev pub may_hold : ℕ → Offers → OfferKey → Bool
-may_hold limit offers key = is_some (finite.get offers key) || nat_lt (finite.len offers) limit
-
--- that a book is full is told once
-abbrev pub told_when_full : Bool → Option Finding
-told_when_full true = None
-told_when_full false = Some Full
-
 -- what is told of an Offer, by its endpoint if it has one
 abbrev pub told_of_offer : OfferEntry → Option SocketAddrV4 → OfferTable → Option Finding
 told_of_offer entry None book = None
 told_of_offer entry (Some endpoint) book =
     if may_hold book.limit book.standing entry.key then moved_by entry endpoint (finite.get book.standing entry.key)
-    else told_when_full book.told_full
+    else told_when_full Full book.told_full
 
 -- what is told of an entry: of a StopOffer nothing
 abbrev pub told_by : OfferEntry → OfferTable → Option Finding

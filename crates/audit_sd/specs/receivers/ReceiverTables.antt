@@ -1,5 +1,5 @@
 -- The subscriptions that stand, and the events that were told.
-use Rattle.std.specs.Prelude.{ℕ, ◌==◌, nat_lt, Bool, true, false, not, ◌&&◌, ◌||◌, if◌then◌else◌, Option, None, Some, is_some, refl}
+use Rattle.std.specs.Prelude.{ℕ, ◌==◌, nat_lt, Bool, true, not, ◌&&◌, ◌||◌, if◌then◌else◌, Option, None, Some, is_some, refl}
 use Rattle.std.specs.Coded.{Coded, code_by, coded×, coded_ℕ, coded_bool}
 use base.Stored.{coded_unit}
 use Rattle.std.specs.FinMap as finite
@@ -10,6 +10,7 @@ use Rattle.someip_tables.specs.declared.lasting.Lasting.{Lasting}
 use Rattle.someip_tables.specs.Endpoints.{coded_endpoint}
 use Rattle.someip_tables.specs.Lastings.{coded_lasting, unexpired}
 use Rattle.someip_tables.specs.Retained.{retain}
+use Rattle.someip_tables.specs.hashed.Rooms.{may_hold, told_when_full}
 use Rattle.audit_sd.specs.declared.subscriptions.entry.EntryKind.{EntryKind}
 use Rattle.audit_sd.specs.declared.subscriptions.entry.EntryKind.TheVariants.{Answer, Subscribe}
 use Rattle.audit_sd.specs.declared.subscriptions.key.SubscriptionKey.{SubscriptionKey}
@@ -41,19 +42,10 @@ pub record Receivers : Type 0 where
 
 -- ---- entries
 
--- a subscription may be held: it is, or fewer are than the limit
-abbrev pub may_hold : ℕ → Subscriptions → SubscriptionKey → Bool
-may_hold limit standing key = is_some (finite.get standing key) || nat_lt (finite.len standing) limit
-
--- that a book is full is told once
-abbrev pub told_when_full : Bool → Option Finding
-told_when_full true = None
-told_when_full false = Some Full
-
 -- what is told of a Subscribe, by its endpoint if it has one: nothing, but where there is no room for it
 abbrev pub told_of_subscribe : SubscriptionKey → Option SocketAddrV4 → Receivers → Option Finding
 told_of_subscribe key None book = None
-told_of_subscribe key (Some endpoint) book = if may_hold book.limit book.standing key then None else told_when_full book.told_full
+told_of_subscribe key (Some endpoint) book = if may_hold book.limit book.standing key then None else told_when_full Full book.told_full
 
 -- what is told of an entry with a TTL above 0
 abbrev pub told_of : EntryKind → ReceiverEntry → Receivers → Option Finding

@@ -1,5 +1,5 @@
 -- The last stamp of each sender to each destination.
-use Rattle.std.specs.Prelude.{ℕ, nat_lt, Bool, true, false, not, ◌&&◌, ◌||◌, if◌then◌else◌, Option, None, Some, is_some, refl}
+use Rattle.std.specs.Prelude.{ℕ, nat_lt, Bool, true, not, ◌&&◌, ◌||◌, if◌then◌else◌, Option, None, refl}
 use Rattle.std.specs.Option.{is_none}
 use Rattle.std.specs.Coded.{Coded, code_by, coded×, coded_ℕ, coded_bool}
 use Rattle.std.specs.Ordering.{eq_by_cmp, ordering_then}
@@ -8,6 +8,7 @@ use Rattle.std.specs.FinMap as finite
 use Rattle.std.specs.FinMap.{FinMap}
 use Rattle.std.specs.declared.net.ipv4_addr.Ipv4Addr.{Ipv4Addr}
 use Rattle.someip_tables.specs.Endpoints.{address_cmp, coded_address}
+use Rattle.someip_tables.specs.hashed.Rooms.{may_hold, told_when_full}
 use Rattle.sd_session.specs.declared.stamp.Stamp.{Stamp}
 use Rattle.sd_session.specs.Peers.{shows_reboot, coded_stamp}
 use Rattle.audit_sd.specs.declared.sessions.finding.Finding.{Finding}
@@ -46,20 +47,11 @@ pairs_before message pairs =
 abbrev pub pairs_after : SdMessage → Pairs → Pairs
 pairs_after message pairs = finite.insert (pairs_before message pairs) (message.from, message.to) message.stamp
 
--- a pair may be held: it is, or fewer are than the limit
-abbrev pub may_hold : SdMessage → ℕ → Pairs → Bool
-may_hold message limit pairs = is_some (last_of message pairs) || nat_lt (finite.len pairs) limit
-
--- that a book is full is told once
-abbrev pub told_when_full : Bool → Option Finding
-told_when_full true = None
-told_when_full false = Some Full
-
 -- what is told of a message with a session
 abbrev pub told_of : SdMessage → Sessions → Option Finding
 told_of message book =
-    if may_hold message book.limit book.last then judged (last_of message book.last) message.stamp
-    else told_when_full book.told_full
+    if may_hold book.limit book.last (message.from, message.to) then judged (last_of message book.last) message.stamp
+    else told_when_full Full book.told_full
 
 -- what is told of a message: one with session 0 is passed over
 abbrev pub told_by : SdMessage → Sessions → Option Finding
@@ -68,7 +60,7 @@ told_by message book = if has_session message.stamp then told_of message book el
 -- the book once a message with a session came: one that it has no room for is not taken
 abbrev pub sessions_with : SdMessage → Sessions → Sessions
 sessions_with message book =
-    if may_hold message book.limit book.last then record book { last = pairs_after message book.last }
+    if may_hold book.limit book.last (message.from, message.to) then record book { last = pairs_after message book.last }
     else record book { told_full = true }
 
 -- the book once a message came

@@ -9,6 +9,7 @@ use Rattle.someip_tables.specs.Retained.{retain}
 use Rattle.someip_tables.specs.declared.hashed.origin.Origin.{Origin}
 use Rattle.someip_tables.specs.hashed.Dues.{IsFirstDue}
 use Rattle.someip_tables.specs.hashed.Origins.{coded_origin}
+use Rattle.someip_tables.specs.hashed.Rooms.{may_hold, told_when_full}
 use Rattle.audit_sd.specs.declared.subscriptions.entry.Asked.{Asked}
 use Rattle.audit_sd.specs.declared.subscriptions.entry.EntryKind.{EntryKind}
 use Rattle.audit_sd.specs.declared.subscriptions.entry.EntryKind.TheVariants.{Answer, Subscribe}
@@ -34,18 +35,9 @@ pub record SubscribeTable : Type 0 where
 
 -- ---- an entry
 
--- that a book is full is told once
-abbrev pub told_when_full : Bool → Option Finding
-told_when_full true = None
-told_when_full false = Some Full
-
--- a Subscribe may be held: one waits under its key, or fewer wait than the limit
-abbrev pub may_hold : ℕ → Waiting → SubscriptionKey → Bool
-may_hold limit waiting key = is_some (finite.get waiting key) || nat_lt (finite.len waiting) limit
-
 -- what is told of a Subscribe: nothing, but where there is no room for it
 abbrev pub told_of_subscribe : SubscribeEntry → SubscribeTable → Option Finding
-told_of_subscribe entry book = if entry.ttl == 0 || may_hold book.limit book.waiting entry.key then None else told_when_full book.told_full
+told_of_subscribe entry book = if entry.ttl == 0 || may_hold book.limit book.waiting entry.key then None else told_when_full Full book.told_full
 
 -- what is told of an entry
 abbrev pub told_of : EntryKind → SubscribeEntry → SubscribeTable → Option Finding

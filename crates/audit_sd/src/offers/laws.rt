@@ -4,13 +4,14 @@ ghost use Rattle.std.specs.Prelude.{◌≡◌, ◌↔◌, ◌≤◌, ◌==◌, �
 ghost use Rattle.std.specs.FinMap as finite;
 ghost use Rattle.std.specs.declared.net.socket_addr.SocketAddrV4.{SocketAddrV4};
 ghost use Rattle.someip_tables.specs.declared.deadline.Deadline.TheVariants.{At};
+ghost use Rattle.someip_tables.specs.hashed.Rooms.{may_hold};
 ghost use Rattle.audit_sd.specs.declared.offers.entry.OfferEntry.{OfferEntry};
 ghost use Rattle.audit_sd.specs.declared.offers.entry.Standing.{Standing};
 ghost use Rattle.audit_sd.specs.declared.offers.finding.Expired.{Expired};
 ghost use Rattle.audit_sd.specs.declared.offers.finding.Finding.TheVariants.{Full, Moved};
 ghost use Rattle.audit_sd.specs.declared.offers.key.OfferKey.{OfferKey};
 ghost use Rattle.audit_sd.specs.offers.OfferRules.{has_expired};
-ghost use Rattle.audit_sd.specs.offers.OfferTables.{FallsDue, OfferTable, Offers, after_due, after_entry, may_hold};
+ghost use Rattle.audit_sd.specs.offers.OfferTables.{FallsDue, OfferTable, Offers, after_due, after_entry};
 ghost use Rattle.audit_sd.specs.offers.OfferTables.{told_by};
 ghost use Rattle.audit_sd.specs.offers.OfferHistories.{Event, book_of, expiring_in, shown_by, standing_in};
 ghost use Rattle.audit_sd.specs.offers.OfferHistories.{without_expired};

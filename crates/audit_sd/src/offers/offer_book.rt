@@ -8,13 +8,13 @@ ghost use Rattle.someip_tables.specs.Waits.{HoldsFrom, due_by};
 ghost use Rattle.someip_tables.specs.hashed.Dues.{WantsMemory};
 ghost use Rattle.audit_sd.specs.offers.OfferKeys.{offer_cmp};
 ghost use Rattle.audit_sd.specs.offers.OfferRules.{is_of, moved_by, offered_at, passes_at};
-ghost use Rattle.audit_sd.specs.offers.OfferTables.{FallsDue, after_due, after_entry, is_offered_by, may_hold};
-ghost use Rattle.audit_sd.specs.offers.OfferTables.{is_stored, stopped, told_by, told_when_full, without_sender};
+ghost use Rattle.audit_sd.specs.offers.OfferTables.{FallsDue, after_due, after_entry, is_offered_by};
+ghost use Rattle.audit_sd.specs.offers.OfferTables.{is_stored, stopped, told_by, without_sender};
 
 use crate::offers::entry::{OfferEntry, Standing};
 use crate::offers::finding::{Expired, Finding};
 use crate::offers::key::OfferKey;
-use someip_tables::hashed::DueTable;
+use someip_tables::hashed::{DueTable, Room};
 use someip_tables::{Deadline, Moment, is_same_key};
 use std::alloc::{AllocError, Global};
 use std::marker::Model;
@@ -23,9 +23,8 @@ use std::net::{Ipv4Addr, SocketAddrV4};
 /// The offers that stand, each until its TTL has passed.
 #[derive(Drop)]
 pub struct OfferBook {
-    limit: usize,
+    room: Room,
     standing: DueTable<OfferKey, Standing>,
-    told_full: bool,
 }
 
 impl Model for OfferBook {
@@ -40,12 +39,12 @@ impl Model for OfferBook {
     ghost coded = { coded_offers };
 
     ghost view = { λ b. record {
-      limit = b.limit;
+      limit = b.room.limit;
       standing = map_of offer_cmp b.standing;
-      told_full = b.told_full;
+      told_full = b.room.told_full;
     } };
 
-    ghost invariant = { λ b. finite.len (map_of offer_cmp b.standing) ≤ b.limit };
+    ghost invariant = { λ b. finite.len (map_of offer_cmp b.standing) ≤ b.room.limit };
 }
 
 impl OfferBook {
@@ -54,9 +53,8 @@ impl OfferBook {
         ensures { result ≡ record { limit = limit; standing = finite.empty; told_full = false } }
     {
         OfferBook {
-            limit,
+            room: Room::new(limit),
             standing: DueTable::new(alloc),
-            told_full: false,
         }
     }
 
@@ -83,8 +81,9 @@ impl OfferBook {
         let Some(endpoint) = entry.endpoint else {
             return Ok(None);
         };
-        if !may_hold(&self.standing, self.limit, entry.key) {
-            return Ok(tell_full(&mut self.told_full));
+        let is_held = self.standing.get(&entry.key).is_some();
+        if !self.room.may_hold(is_held, self.standing.len()) {
+            return Ok(self.room.tell_full(Finding::Full));
         }
         offer(&mut self.standing, now, &entry, endpoint)
     }
@@ -128,25 +127,6 @@ impl OfferBook {
     {
         self.standing.len()
     }
-}
-
-/// Whether an offer of this key may be held: one is, or they are fewer than the limit.
-fn may_hold(offers: &DueTable<OfferKey, Standing>, limit: usize, key: OfferKey) -> bool
-    ensures { result ≡ may_hold limit (map_of offer_cmp offers.now) key }
-{
-    offers.get(&key).is_some() || offers.len() < limit
-}
-
-/// Says that the book is full, once.
-fn tell_full(told_full: &mut bool) -> Option<Finding>
-    ensures told { result ≡ told_when_full told_full.old }
-    ensures noted { told_full.new ≡ true }
-{
-    if *told_full {
-        return None;
-    }
-    *told_full = true;
-    Some(Finding::Full)
 }
 
 /// An Offer stands in place of what stood under its key.

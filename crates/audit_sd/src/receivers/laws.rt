@@ -4,6 +4,7 @@ ghost use Rattle.std.specs.Prelude.{◌≡◌, ◌↔◌, ◌≤◌, ◌==◌, �
 ghost use Rattle.std.specs.FinMap as finite;
 ghost use Rattle.std.specs.declared.net.socket_addr.SocketAddrV4.{SocketAddrV4};
 ghost use Rattle.someip_tables.specs.declared.lasting.Lasting.{Lasting};
+ghost use Rattle.someip_tables.specs.hashed.Rooms.{may_hold};
 ghost use Rattle.audit_sd.specs.declared.subscriptions.entry.EntryKind.TheVariants.{Subscribe};
 ghost use Rattle.audit_sd.specs.declared.subscriptions.key.SubscriptionKey.{SubscriptionKey};
 ghost use Rattle.audit_sd.specs.declared.receivers.delivery.Delivery.{Delivery};
@@ -11,7 +12,7 @@ ghost use Rattle.audit_sd.specs.declared.receivers.entry.ReceiverEntry.{Receiver
 ghost use Rattle.audit_sd.specs.declared.receivers.finding.Finding.TheVariants.{Full, Unsubscribed};
 ghost use Rattle.audit_sd.specs.receivers.ReceiverRules.{goes_by};
 ghost use Rattle.audit_sd.specs.receivers.ReceiverTables.{Receivers, Subscriptions, after_entry, after_event};
-ghost use Rattle.audit_sd.specs.receivers.ReceiverTables.{is_passed_over, is_subscribed, may_hold, told_by};
+ghost use Rattle.audit_sd.specs.receivers.ReceiverTables.{is_passed_over, is_subscribed, told_by};
 ghost use Rattle.audit_sd.specs.receivers.ReceiverTables.{told_of_event, without_expired};
 ghost use Rattle.audit_sd.specs.receivers.ReceiverHistories.{Event, Shown, book_after, book_of, shown_by};
 ghost use Rattle.audit_sd.specs.receivers.ReceiverHistories.{standing_in};

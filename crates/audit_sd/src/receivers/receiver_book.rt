@@ -12,10 +12,10 @@ use crate::receivers::entry::{ReceiverEntry, WithdrawnOffer};
 use crate::receivers::finding::Finding;
 use crate::receivers::steps::{
     Fine, Standing, Told, acknowledge, drop_expired, end, forget, has_receiver, has_room,
-    is_silent, is_told, may_hold, note, subscribe, tell_full, untell, withdraw,
+    is_silent, is_told, may_hold, note, subscribe, untell, withdraw,
 };
 use crate::subscriptions::{EntryKind, SubscriptionKey};
-use someip_tables::hashed::KeySet;
+use someip_tables::hashed::{KeySet, Room};
 use someip_tables::{DeadlineMap, Moment};
 use std::alloc::{AllocError, Global};
 use std::collections::BTreeSet;
@@ -27,12 +27,11 @@ use std::net::Ipv4Addr;
 /// once in that time.
 #[derive(Drop)]
 pub struct ReceiverBook {
-    limit: usize,
+    room: Room,
     settled: Moment,
     standing: Standing,
     told: Told,
     fine: Fine,
-    told_full: bool,
 }
 
 impl Model for ReceiverBook {
@@ -47,11 +46,11 @@ impl Model for ReceiverBook {
     ghost coded = { coded_receivers };
 
     ghost view = { λ b. record {
-      limit = b.limit;
+      limit = b.room.limit;
       settled = b.settled;
       standing = map_of subscription_cmp b.standing;
       told = map_of delivery_cmp b.told;
-      told_full = b.told_full;
+      told_full = b.room.told_full;
     } };
 
     ghost invariant = { λ b. AreSubscribed (map_of delivery_cmp b.fine)
@@ -71,12 +70,11 @@ impl ReceiverBook {
         } }
     {
         ReceiverBook {
-            limit,
+            room: Room::new(limit),
             settled,
             standing: DeadlineMap::new(alloc),
             told: KeySet::new(alloc),
             fine: KeySet::new(alloc),
-            told_full: false,
         }
     }
 
@@ -122,8 +120,8 @@ impl ReceiverBook {
         let Some(endpoint) = entry.endpoint else {
             return Ok(None);
         };
-        if !may_hold(&self.standing, self.limit, &entry) {
-            return Ok(tell_full(&mut self.told_full));
+        if !may_hold(&self.standing, self.room, &entry) {
+            return Ok(self.room.tell_full(Finding::Full));
         }
         subscribe(&mut self.standing, &mut self.fine, now, &entry, endpoint)?;
         untell(&mut self.told, &entry, endpoint);
@@ -156,17 +154,17 @@ impl ReceiverBook {
         ensures grows { OnErr result (is_passed_over now delivery self.old ≡ false) }
         ensures room { OnErr result (nat_lt (finite.len self.old.told) self.old.limit ≡ true) }
     {
-        if is_silent(self.told_full, now, self.settled) {
+        if is_silent(self.room.told_full, now, self.settled) {
             return Ok(None);
         }
         if is_told(&self.told, &delivery) {
             return Ok(None);
         }
-        if has_receiver(&self.standing, &mut self.fine, self.limit, delivery) {
+        if has_receiver(&self.standing, &mut self.fine, self.room.limit, delivery) {
             return Ok(None);
         }
-        if !has_room(&self.told, self.limit) {
-            self.told_full = true;
+        if !has_room(&self.told, self.room.limit) {
+            self.room.told_full = true;
             return Ok(Some(Finding::Full));
         }
         note(&mut self.told, delivery)?;

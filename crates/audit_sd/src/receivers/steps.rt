@@ -4,18 +4,19 @@ ghost use Rattle.std.specs.FinMap as finite;
 ghost use Rattle.someip_tables.specs.Deadlines.{deadline_after};
 ghost use Rattle.someip_tables.specs.Lastings.{NeedsMemory, expired, unexpired};
 ghost use Rattle.someip_tables.specs.Tables.{map_of};
+ghost use Rattle.someip_tables.specs.hashed.Rooms.{may_hold};
 ghost use Rattle.audit_sd.specs.subscriptions.SubscriptionKeys.{subscription_cmp};
 ghost use Rattle.audit_sd.specs.subscriptions.SubscribeRules.{is_of};
 ghost use Rattle.audit_sd.specs.receivers.DeliveryKeys.{delivery_cmp};
 ghost use Rattle.audit_sd.specs.receivers.FoundSubscribed.{AreSubscribed, endpoint_in, is_new_or_same};
 ghost use Rattle.audit_sd.specs.receivers.ReceiverRules.{goes_by, is_to, standing_from};
-ghost use Rattle.audit_sd.specs.receivers.ReceiverTables.{acked, is_subscribed, may_hold, told_when_full, untold};
+ghost use Rattle.audit_sd.specs.receivers.ReceiverTables.{acked, is_subscribed, untold};
 
 use crate::receivers::delivery::Delivery;
 use crate::receivers::entry::{ReceiverEntry, WithdrawnOffer};
 use crate::receivers::finding::Finding;
 use crate::subscriptions::SubscriptionKey;
-use someip_tables::hashed::KeySet;
+use someip_tables::hashed::{KeySet, Room};
 use someip_tables::{Deadline, DeadlineMap, Moment, is_same_key};
 use std::alloc::{AllocError, Global};
 use std::collections::BTreeSet;
@@ -91,23 +92,11 @@ pub(crate) fn withdraw(standing: &mut Standing, fine: &mut Fine, offer: Withdraw
     fine.clear();
 }
 
-/// Whether the subscription of an entry may be held: it is, or they are fewer than the limit.
-pub(crate) fn may_hold(standing: &Standing, limit: usize, entry: &ReceiverEntry) -> bool
-    ensures { result ≡ may_hold limit (map_of subscription_cmp standing.now) entry.now.key }
+/// Whether the subscription of an entry may be held.
+pub(crate) fn may_hold(standing: &Standing, room: Room, entry: &ReceiverEntry) -> bool
+    ensures { result ≡ may_hold room.limit (map_of subscription_cmp standing.now) entry.now.key }
 {
-    standing.get(&entry.key).is_some() || standing.len() < limit
-}
-
-/// Says that the book is full, once.
-pub(crate) fn tell_full(told_full: &mut bool) -> Option<Finding>
-    ensures told { result ≡ told_when_full told_full.old }
-    ensures noted { told_full.new ≡ true }
-{
-    if *told_full {
-        return None;
-    }
-    *told_full = true;
-    Some(Finding::Full)
+    room.may_hold(standing.get(&entry.key).is_some(), standing.len())
 }
 
 /// A subscription stands until the TTL of its Ack has passed.

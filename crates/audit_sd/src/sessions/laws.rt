@@ -3,11 +3,12 @@
 ghost use Rattle.std.specs.Prelude.{◌≡◌, ◌↔◌, ◌≤◌, ℕ, List, [], ◌∷◌, length, true, false, Some, None};
 ghost use Rattle.std.specs.FinMap as finite;
 ghost use Rattle.std.specs.declared.net.ipv4_addr.Ipv4Addr.{Ipv4Addr};
+ghost use Rattle.someip_tables.specs.hashed.Rooms.{may_hold};
 ghost use Rattle.sd_session.specs.declared.stamp.Stamp.{Stamp};
 ghost use Rattle.audit_sd.specs.declared.sessions.finding.Finding.TheVariants.{Reboot, NotNext, Full};
 ghost use Rattle.audit_sd.specs.sessions.SessionRules.{has_session, judged};
 ghost use Rattle.audit_sd.specs.declared.sessions.message.SdMessage.{SdMessage};
-ghost use Rattle.audit_sd.specs.sessions.SessionBooks.{Sessions, may_hold, sessions_after, told_by};
+ghost use Rattle.audit_sd.specs.sessions.SessionBooks.{Sessions, sessions_after, told_by};
 ghost use Rattle.audit_sd.specs.sessions.Histories.{last_in, sessions_of, shown_after};
 ghost use Rattle.audit_sd.specs.sessions.Reasons.{IsLast, IsNotNext, IsReboot};
 ghost use Rattle.audit_sd.specs.sessions.Examples.{group, node, sent, stamp};
@@ -102,7 +103,7 @@ pub fn full_is_told_once()
     ensures stays { (message : SdMessage) (book : Sessions) → book.told_full ≡ true
         → (sessions_after message book).told_full ≡ true }
     ensures tells { (message : SdMessage) (book : Sessions) → has_session message.stamp ≡ true
-        → may_hold message book.limit book.last ≡ false → book.told_full ≡ false
+        → may_hold book.limit book.last (message.from, message.to) ≡ false → book.told_full ≡ false
         → told_by message book ≡ Some Full }
 {}
 

@@ -2,15 +2,17 @@
 ghost use Rattle.std.specs.Prelude.{◌≡◌, ◌≤◌, ◌||◌, None, IfOk, OnErr, true, false};
 ghost use Rattle.std.specs.FinMap as finite;
 ghost use Rattle.someip_tables.specs.Tables.{map_of};
+ghost use Rattle.someip_tables.specs.hashed.Rooms.{may_hold};
 ghost use Rattle.sd_session.specs.Sessions.{following, is_reboot};
 ghost use Rattle.sd_session.specs.Peers.{shows_reboot};
 ghost use Rattle.audit_sd.specs.sessions.SessionRules.{judged, is_same_stamp};
-ghost use Rattle.audit_sd.specs.sessions.SessionBooks.{is_other, last_of, may_hold, needs_memory, pair_cmp};
-ghost use Rattle.audit_sd.specs.sessions.SessionBooks.{pairs_after, sessions_after, told_by, told_when_full};
+ghost use Rattle.audit_sd.specs.sessions.SessionBooks.{is_other, last_of, needs_memory, pair_cmp};
+ghost use Rattle.audit_sd.specs.sessions.SessionBooks.{pairs_after, sessions_after, told_by};
 
 use crate::sessions::finding::Finding;
 use crate::sessions::message::SdMessage;
 use sd_session::Stamp;
+use someip_tables::hashed::Room;
 use someip_tables::is_same_key;
 use std::alloc::{AllocError, Global};
 use std::collections::BTreeMap;
@@ -20,9 +22,8 @@ use std::net::Ipv4Addr;
 /// The last stamp of each sender to each destination, as far as a recording was read.
 #[derive(Drop)]
 pub struct SessionBook {
-    limit: usize,
+    room: Room,
     last: BTreeMap<(Ipv4Addr, Ipv4Addr), Stamp>,
-    told_full: bool,
 }
 
 impl Model for SessionBook {
@@ -36,12 +37,12 @@ impl Model for SessionBook {
     ghost coded = { coded_sessions };
 
     ghost view = { λ b. record {
-      limit = b.limit;
+      limit = b.room.limit;
       last = map_of pair_cmp b.last.entries;
-      told_full = b.told_full;
+      told_full = b.room.told_full;
     } };
 
-    ghost invariant = { λ b. finite.len (map_of pair_cmp b.last.entries) ≤ b.limit };
+    ghost invariant = { λ b. finite.len (map_of pair_cmp b.last.entries) ≤ b.room.limit };
 }
 
 impl SessionBook {
@@ -51,9 +52,8 @@ impl SessionBook {
         ensures { result ≡ record { limit = limit; last = finite.empty; told_full = false } }
     {
         SessionBook {
-            limit,
+            room: Room::new(limit),
             last: BTreeMap::new(alloc),
-            told_full: false,
         }
     }
 
@@ -73,8 +73,8 @@ impl SessionBook {
         if message.stamp.session == 0 {
             return Ok(None);
         }
-        if !may_hold(&self.last, self.limit, &message) {
-            return Ok(tell_full(&mut self.told_full));
+        if !may_hold(&self.last, self.room, &message) {
+            return Ok(self.room.tell_full(Finding::Full));
         }
         enter(&mut self.last, &message)
     }
@@ -88,23 +88,12 @@ impl SessionBook {
     }
 }
 
-/// Whether the pair of a message may be held: it is, or the pairs are fewer than the limit.
-fn may_hold(last: &BTreeMap<(Ipv4Addr, Ipv4Addr), Stamp>, limit: usize, message: &SdMessage) -> bool
-    ensures { result ≡ may_hold message.now limit (map_of pair_cmp last.now.entries) }
+/// Whether the pair of a message may be held.
+fn may_hold(last: &BTreeMap<(Ipv4Addr, Ipv4Addr), Stamp>, room: Room, message: &SdMessage) -> bool
+    ensures { result
+        ≡ may_hold room.limit (map_of pair_cmp last.now.entries) (message.now.from, message.now.to) }
 {
-    last.contains_key(&(message.from, message.to)) || last.len() < limit
-}
-
-/// Says that the book is full, once.
-fn tell_full(told_full: &mut bool) -> Option<Finding>
-    ensures told { result ≡ told_when_full told_full.old }
-    ensures noted { told_full.new ≡ true }
-{
-    if *told_full {
-        return None;
-    }
-    *told_full = true;
-    Some(Finding::Full)
+    room.may_hold(last.contains_key(&(message.from, message.to)), last.len())
 }
 
 /// Enters a message whose pair is held, or that there is room for, and says what it shows.

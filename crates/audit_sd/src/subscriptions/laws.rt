@@ -2,6 +2,7 @@
 //! it says what a recording shows of Subscribes, whatever code keeps the book.
 ghost use Rattle.std.specs.Prelude.{◌≡◌, ◌↔◌, ◌≤◌, ℕ, Option, List, [], ◌∷◌, true, false, Some, None};
 ghost use Rattle.std.specs.FinMap as finite;
+ghost use Rattle.someip_tables.specs.hashed.Rooms.{may_hold};
 ghost use Rattle.audit_sd.specs.declared.subscriptions.entry.Asked.{Asked};
 ghost use Rattle.audit_sd.specs.declared.subscriptions.entry.SubscribeEntry.{SubscribeEntry};
 ghost use Rattle.audit_sd.specs.declared.subscriptions.finding.Finding.TheVariants.{Full, Nack};
@@ -9,7 +10,7 @@ ghost use Rattle.audit_sd.specs.declared.subscriptions.finding.Unanswered.{Unans
 ghost use Rattle.audit_sd.specs.declared.subscriptions.key.SubscriptionKey.{SubscriptionKey};
 ghost use Rattle.audit_sd.specs.subscriptions.SubscribeRules.{is_late, told_of_answer};
 ghost use Rattle.audit_sd.specs.subscriptions.SubscribeTables.{FallsDue, SubscribeTable, Waiting, after_due};
-ghost use Rattle.audit_sd.specs.subscriptions.SubscribeTables.{after_entry, asks, may_hold, told_by};
+ghost use Rattle.audit_sd.specs.subscriptions.SubscribeTables.{after_entry, asks, told_by};
 ghost use Rattle.audit_sd.specs.subscriptions.SubscribeHistories.{Event, book_of, unanswered_in, waiting_in};
 ghost use Rattle.audit_sd.specs.subscriptions.SubscribeHistories.{without_late};
 ghost use Rattle.audit_sd.specs.subscriptions.SubscribeReasons.{IsWaiting};

@@ -6,14 +6,14 @@ ghost use Rattle.someip_tables.specs.Tables.{map_of};
 ghost use Rattle.someip_tables.specs.Waits.{HoldsFrom, due_by};
 ghost use Rattle.audit_sd.specs.subscriptions.SubscriptionKeys.{subscription_cmp};
 ghost use Rattle.audit_sd.specs.subscriptions.SubscribeRules.{is_of, told_of_answer, waits_until};
-ghost use Rattle.audit_sd.specs.subscriptions.SubscribeTables.{FallsDue, after_due, after_entry, may_hold};
-ghost use Rattle.audit_sd.specs.subscriptions.SubscribeTables.{needs_memory, told_by, told_when_full};
+ghost use Rattle.audit_sd.specs.subscriptions.SubscribeTables.{FallsDue, after_due, after_entry};
+ghost use Rattle.audit_sd.specs.subscriptions.SubscribeTables.{needs_memory, told_by};
 ghost use Rattle.audit_sd.specs.subscriptions.SubscribeTables.{waiting_with, without};
 
 use crate::subscriptions::entry::{Asked, EntryKind, SubscribeEntry};
 use crate::subscriptions::finding::{Finding, Unanswered};
 use crate::subscriptions::key::SubscriptionKey;
-use someip_tables::hashed::DueTable;
+use someip_tables::hashed::{DueTable, Room};
 use someip_tables::{Moment, is_same_key};
 use std::alloc::{AllocError, Global};
 use std::marker::Model;
@@ -22,10 +22,9 @@ use std::net::Ipv4Addr;
 /// The Subscribes that wait for their answer.
 #[derive(Drop)]
 pub struct SubscribeBook {
-    limit: usize,
+    room: Room,
     answer_ms: u32,
     waiting: DueTable<SubscriptionKey, Asked>,
-    told_full: bool,
 }
 
 impl Model for SubscribeBook {
@@ -40,13 +39,13 @@ impl Model for SubscribeBook {
     ghost coded = { coded_subscribes };
 
     ghost view = { λ b. record {
-      limit = b.limit;
+      limit = b.room.limit;
       answer_ms = b.answer_ms;
       waiting = map_of subscription_cmp b.waiting;
-      told_full = b.told_full;
+      told_full = b.room.told_full;
     } };
 
-    ghost invariant = { λ b. finite.len (map_of subscription_cmp b.waiting) ≤ b.limit };
+    ghost invariant = { λ b. finite.len (map_of subscription_cmp b.waiting) ≤ b.room.limit };
 }
 
 impl SubscribeBook {
@@ -61,10 +60,9 @@ impl SubscribeBook {
         } }
     {
         SubscribeBook {
-            limit,
+            room: Room::new(limit),
             answer_ms,
             waiting: DueTable::new(alloc),
-            told_full: false,
         }
     }
 
@@ -87,8 +85,9 @@ impl SubscribeBook {
         if entry.ttl == 0 {
             return Ok(None);
         }
-        if !may_hold(&self.waiting, self.limit, entry.key) {
-            return Ok(tell_full(&mut self.told_full));
+        let is_held = self.waiting.get(&entry.key).is_some();
+        if !self.room.may_hold(is_held, self.waiting.len()) {
+            return Ok(self.room.tell_full(Finding::Full));
         }
         wait(&mut self.waiting, now, self.answer_ms, &entry)?;
         Ok(None)
@@ -146,25 +145,6 @@ fn told_of_answer(entry: &SubscribeEntry) -> Option<Finding>
     } else {
         None
     }
-}
-
-/// Whether a Subscribe of this key may be held: one is, or they are fewer than the limit.
-fn may_hold(waiting: &DueTable<SubscriptionKey, Asked>, limit: usize, key: SubscriptionKey) -> bool
-    ensures { result ≡ may_hold limit (map_of subscription_cmp waiting.now) key }
-{
-    waiting.get(&key).is_some() || waiting.len() < limit
-}
-
-/// Says that the book is full, once.
-fn tell_full(told_full: &mut bool) -> Option<Finding>
-    ensures told { result ≡ told_when_full told_full.old }
-    ensures noted { told_full.new ≡ true }
-{
-    if *told_full {
-        return None;
-    }
-    *told_full = true;
-    Some(Finding::Full)
 }
 
 /// A Subscribe waits, unless one of its subscription does.

@@ -8,11 +8,12 @@ use Rattle.std.proofs.lemmas.Bool.{eq-eqb, eqb-true, lt-ltb}
 use Rattle.someip_tables.specs.Changed.{each_changed}
 use Rattle.someip_tables.proofs.ChangedLemmas.{get-changed}
 use Rattle.someip_tables.proofs.Entries.{own_test, same_by_test}
+use Rattle.someip_tables.specs.hashed.Rooms.{may_hold}
 use Rattle.audit_traffic.specs.declared.events.flow.EventFlow.{EventFlow}
 use Rattle.audit_traffic.specs.declared.events.last_event.LastEvent.{LastEvent}
 use Rattle.audit_traffic.specs.declared.events.notification.Notification.{Notification}
 use Rattle.audit_traffic.specs.events.EventRules.{is_other, past, renewed}
-use Rattle.audit_traffic.specs.events.EventTables.{Events, Flows, after_event, flows_after, may_hold}
+use Rattle.audit_traffic.specs.events.EventTables.{Events, Flows, after_event, flows_after}
 use Rattle.audit_traffic.specs.events.FlowGroups.{once_came}
 use Rattle.audit_traffic.specs.events.FlowKeys.{flow_cmp}
 use Rattle.audit_traffic.specs.events.FlowOrder.{flows_total, exact_flows}
@@ -78,7 +79,7 @@ not_zero n other = cases (n == 0) refl
     cases false is = refl
 
 -- the book once one came that may be held
-pub held_event : (event : Notification) (book : Events) (flows : Flows) → (event.session ≡ 0 → ⊥) → may_hold book.limit event.flow book.flows ≡ true → flows ≡ flows_after event book.flows
+pub held_event : (event : Notification) (book : Events) (flows : Flows) → (event.session ≡ 0 → ⊥) → may_hold book.limit book.flows event.flow ≡ true → flows ≡ flows_after event book.flows
     → (record book { flows = flows }) ≡ after_event event book
 held_event event book flows counted held is = rw (not_zero event.session counted, held) (λ i. record book { flows = is i })
 

@@ -1,12 +1,12 @@
 -- The last event of each flow.
-use Rattle.std.specs.Prelude.{ℕ, ◌==◌, nat_lt, Bool, true, false, not, ◌&&◌, ◌||◌, if◌then◌else◌, Option, None, Some, is_some, refl}
+use Rattle.std.specs.Prelude.{ℕ, ◌==◌, nat_lt, Bool, true, not, ◌&&◌, if◌then◌else◌, Option, None, refl}
 use Rattle.std.specs.Option.{is_none}
 use Rattle.std.specs.Coded.{Coded, code_by, coded×, coded_ℕ, coded_bool, coded_option}
 use Rattle.std.specs.FinMap as finite
 use Rattle.std.specs.FinMap.{FinMap}
 use Rattle.std.specs.declared.net.ipv4_addr.Ipv4Addr.{Ipv4Addr}
 use Rattle.someip_tables.specs.Changed.{each_changed}
-use Rattle.audit_traffic.specs.declared.events.flow.EventFlow.{EventFlow}
+use Rattle.someip_tables.specs.hashed.Rooms.{may_hold, told_when_full}
 use Rattle.audit_traffic.specs.declared.events.last_event.LastEvent.{LastEvent}
 use Rattle.audit_traffic.specs.declared.events.notification.Notification.{Notification}
 use Rattle.audit_traffic.specs.declared.events.finding.Finding.{Finding}
@@ -24,21 +24,12 @@ pub record Events : Type 0 where
   pub flows : Flows
   pub told_full : Bool
 
--- a flow may be held: it is, or fewer are than the limit
-abbrev pub may_hold : ℕ → EventFlow → Flows → Bool
-may_hold limit flow flows = is_some (finite.get flows flow) || nat_lt (finite.len flows) limit
-
--- that a book is full is told once
-abbrev pub told_when_full : Bool → Option Finding
-told_when_full true = None
-told_when_full false = Some Full
-
 -- what is told of an event: of one without a session nothing, and a loss only where the book was never full
 abbrev pub told_by : Notification → Events → Option Finding
 told_by event book =
     if event.session == 0 then None
-    else if may_hold book.limit event.flow book.flows then judged (not book.told_full) (finite.get book.flows event.flow) event.session
-    else told_when_full book.told_full
+    else if may_hold book.limit book.flows event.flow then judged (not book.told_full) (finite.get book.flows event.flow) event.session
+    else told_when_full Full book.told_full
 
 -- the other flows of an event, once one came
 abbrev pub others_past : Notification → Flows → Flows
@@ -52,7 +43,7 @@ flows_after event flows = others_past event (finite.insert flows event.flow (ren
 abbrev pub after_event : Notification → Events → Events
 after_event event book =
     if event.session == 0 then book
-    else if may_hold book.limit event.flow book.flows then record book { flows = flows_after event book.flows }
+    else if may_hold book.limit book.flows event.flow then record book { flows = flows_after event book.flows }
     else record book { told_full = true }
 
 -- once a subscription of a client at a server changed

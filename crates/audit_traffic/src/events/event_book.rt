@@ -7,7 +7,8 @@ ghost use Rattle.audit_traffic.specs.events.EventTables.{needs_memory, told_by, 
 use crate::events::finding::Finding;
 use crate::events::flow_table::FlowTable;
 use crate::events::notification::Notification;
-use crate::events::steps::{judge, renewed, tell_full};
+use crate::events::steps::{judge, renewed};
+use someip_tables::hashed::Room;
 use std::alloc::{AllocError, Global};
 use std::marker::Model;
 use std::net::Ipv4Addr;
@@ -15,9 +16,8 @@ use std::net::Ipv4Addr;
 /// The last event of each flow, as far as a recording was read.
 #[derive(Drop)]
 pub struct EventBook {
-    limit: usize,
+    room: Room,
     flows: FlowTable,
-    told_full: bool,
 }
 
 impl Model for EventBook {
@@ -30,9 +30,9 @@ impl Model for EventBook {
     ghost coded = { coded_events };
 
     ghost view = { λ b. record {
-      limit = b.limit;
+      limit = b.room.limit;
       flows = map_of flow_cmp b.flows;
-      told_full = b.told_full;
+      told_full = b.room.told_full;
     } };
 }
 
@@ -42,9 +42,8 @@ impl EventBook {
         ensures { result ≡ record { limit = limit; flows = finite.empty; told_full = false } }
     {
         EventBook {
-            limit,
+            room: Room::new(limit),
             flows: FlowTable::new(alloc),
-            told_full: false,
         }
     }
 
@@ -65,10 +64,10 @@ impl EventBook {
             return Ok(None);
         }
         if let Some(last) = self.flows.came(&event) {
-            return Ok(judge(!self.told_full, Some(last), event.session));
+            return Ok(judge(!self.room.told_full, Some(last), event.session));
         }
-        if self.limit <= self.flows.len() {
-            return Ok(tell_full(&mut self.told_full));
+        if self.room.limit <= self.flows.len() {
+            return Ok(self.room.tell_full(Finding::Full));
         }
         self.flows.add(&event.flow, renewed(event.session, None))?;
         self.flows.came(&event);

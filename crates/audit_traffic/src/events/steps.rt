@@ -1,23 +1,10 @@
 //! What sessions show, and what they make of the last event of a flow.
-ghost use Rattle.std.specs.Prelude.{◌≡◌, true};
+ghost use Rattle.std.specs.Prelude.{◌≡◌};
 ghost use Rattle.audit_traffic.specs.events.EventRules.{ahead, is_loss, is_nearer, judged, nearer, past, renewed};
-ghost use Rattle.audit_traffic.specs.events.EventTables.{told_when_full};
 
 use crate::events::finding::Finding;
 use crate::events::last_event::LastEvent;
 use someip_tables::next_session;
-
-/// Says that the book is full, once.
-pub(crate) fn tell_full(told_full: &mut bool) -> Option<Finding>
-    ensures told { result ≡ told_when_full told_full.old }
-    ensures noted { told_full.new ≡ true }
-{
-    if *told_full {
-        return None;
-    }
-    *told_full = true;
-    Some(Finding::Full)
-}
 
 /// The last event of a flow once another receiver got a session.
 pub(crate) fn past(session: u16, last: LastEvent) -> LastEvent

@@ -2,4 +2,4 @@ use Rattle.audit_sd.proofs.about_offers.OfferLemmas.{none_within}
 use Rattle.audit_sd.proofs.offers.offer_book.OfferBook.new.Goals as goal
 
 pub invariant_of-result : goal.invariant_of-result
-invariant_of-result c = none_within _ c.args.limit c.new.ensures
+invariant_of-result c = none_within _ c.new.result.limit c.new-2.ensures

@@ -1,6 +1,7 @@
-use Rattle.std.proofs.Common.{◌≡◌, true, rules, sym, ◌∙◌, arith}
+use Rattle.std.proofs.Common.{◌≡◌, true, rules, arith}
 use Rattle.someip_tables.specs.Tables.{map_of}
 use Rattle.someip_tables.proofs.MapLaws.{len-remove-≤}
+use Rattle.someip_tables.specs.hashed.Rooms.{may_hold}
 use Rattle.audit_sd.specs.subscriptions.SubscriptionKeys.{subscription_cmp}
 use Rattle.audit_sd.specs.subscriptions.SubscriptionOrder.{subscriptions_total, exact_subscriptions}
 use Rattle.audit_sd.proofs.about_subscriptions.SubscribeLemmas.{waits_within}
@@ -13,6 +14,7 @@ invariant_of-self c =
 
 pub invariant_of-self-2 : goal.invariant_of-self-2
 invariant_of-self-2 c =
-    let is : c.may_hold.result ≡ true = search rules in
-    waits_within c.args.now c.self.inside.answer_ms c.args.entry c.self.inside.limit (map_of subscription_cmp c.self.inside.waiting) (map_of subscription_cmp c.wait.new.waiting) c.wait.result c.self.invariant
-    (sym c.may_hold.ensures ∙ is) c.wait.ensures.after (search rules)
+    let may : may_hold c.self.inside.room.limit (map_of subscription_cmp c.self.inside.waiting) c.args.entry.key ≡ true =
+    rw (← c.get.ensures, ← c.is_some-is_held.ensures, ← c.len.ensures, ← c.may_hold.ensures) c.if-not-may_hold.false in
+    waits_within c.args.now c.self.inside.answer_ms c.args.entry c.self.inside.room.limit (map_of subscription_cmp c.self.inside.waiting) (map_of subscription_cmp c.wait.new.waiting) c.wait.result c.self.invariant
+    may c.wait.ensures.after (search rules)
