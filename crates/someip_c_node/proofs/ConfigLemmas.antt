@@ -6,11 +6,11 @@ use Rattle.someip_node_rules.specs.forms.GoodConfigs.{is_good}
 use Rattle.someip_node_rules.specs.declared.config.Config.{Config}
 use Rattle.someip_node_rules.specs.declared.config.Common.{Common}
 use Rattle.someip_world_setup.specs.GoodSetups.{IsGoodNetwork, IsGoodNode, Network}
-use Rattle.someip_world_setup_parts.specs.Made.{config_made, config_view}
+use Rattle.someip_world_setup_keys.specs.Made.{config_made, config_view}
 use Rattle.someip_world_setup.specs.Readings.{HasValues, IsOwed, TextHasFault, setup_of_text, tree_of}
-use Rattle.someip_world_setup_parts.specs.Values.{NodeValue, SetupValue, common_view}
-use Rattle.someip_world_setup_parts.specs.declared.error.SetupError.{SetupError}
-use Rattle.someip_world_setup_parts.specs.declared.error.SetupError.TheVariants as setup
+use Rattle.someip_world_setup_keys.specs.Values.{NodeValue, SetupValue, common_view}
+use Rattle.someip_world_setup_keys.specs.declared.error.SetupError.{SetupError}
+use Rattle.someip_world_setup_keys.specs.declared.error.SetupError.TheVariants as setup
 use Rattle.someip_world_setup.specs.declared.setup_node.SetupNode.{SetupNode}
 use Rattle.someip_c_node.specs.declared.outcome.Outcome.{Outcome}
 use Rattle.someip_c_node.specs.declared.outcome.Outcome.TheVariants.{NoSuchNode, OutOfMemory}

@@ -12,7 +12,7 @@ use Rattle.someip_node_rules.specs.rules.Handling.{same_address}
 use Rattle.someip_node_rules.specs.declared.config.Config.{Config}
 use Rattle.someip_node_rules.specs.declared.config.OfferedService.{OfferedService}
 use Rattle.someip_node_rules.specs.declared.config.WantedService.{WantedService}
-use Rattle.someip_world_setup_parts.specs.Made.{ConfigMade, OfferMade, WantMade, config_view, keys_of_set, offered_view, plain_entries, wanted_view}
+use Rattle.someip_world_setup_keys.specs.Made.{ConfigMade, OfferMade, WantMade, config_view, keys_of_set, offered_view, plain_entries, wanted_view}
 use Rattle.std.specs.BTreeMap.{BTreeMap}
 use Rattle.std.specs.BTreeSet.{BTreeSet}
 use Rattle.someip_tables.specs.Tables.{map_of}

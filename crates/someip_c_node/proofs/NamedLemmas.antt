@@ -5,9 +5,9 @@ use Rattle.std.proofs.Math.Seq.{drop-cons}
 use Rattle.std.specs.List.{All, slice_index_or}
 use Rattle.std.specs.Prelude.{◌<◌, drop, length, Bool, true, false, bytes_eq, string_bytes, map, if◌then◌else◌, Option, None, Some, IsSomeAnd}
 use Rattle.someip_node_rules.specs.declared.config.Common.{Common}
-use Rattle.someip_world_setup_parts.specs.Made.{config_made, config_view}
+use Rattle.someip_world_setup_keys.specs.Made.{config_made, config_view}
 use Rattle.someip_world_setup.specs.NodesMade.{made_view, node_made}
-use Rattle.someip_world_setup_parts.specs.Values.{NodeValue}
+use Rattle.someip_world_setup_keys.specs.Values.{NodeValue}
 use Rattle.someip_world_setup.specs.declared.setup_node.SetupNode.{SetupNode}
 use Rattle.someip_c_node.specs.Texts.{first_named, named}
 

@@ -4,7 +4,7 @@ use Rattle.std.specs.Prelude.{false, Option, None, Some, IsSomeAnd, IsUtf8}
 use Rattle.someip_node_rules.specs.forms.GoodConfigs.{is_good_delay, is_within}
 use Rattle.someip_node_rules.specs.declared.config.Config.{Config}
 use Rattle.someip_world_setup.specs.Readings.{setup_of_text}
-use Rattle.someip_world_setup_parts.specs.Values.{NodeValue, SetupValue}
+use Rattle.someip_world_setup_keys.specs.Values.{NodeValue, SetupValue}
 use Rattle.someip_c_node.specs.declared.outcome.Outcome.TheVariants.{BadDelay}
 use Rattle.someip_c_node.specs.Starts.{IsNotStarted, RefusesDelay}
 use Rattle.someip_c_node.specs.Texts.{IsConfigIn, IsConfigOf, IsNamedIn, named}

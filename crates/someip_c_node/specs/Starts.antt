@@ -4,7 +4,7 @@ use Rattle.someip_node_rules.specs.forms.GoodConfigs.{is_good_delay, is_within}
 use Rattle.someip_node_rules.specs.histories.History.{start_of}
 use Rattle.someip_node_rules.specs.steps.Steps.{StandsFor}
 use Rattle.someip_world_setup.specs.Readings.{setup_of_text}
-use Rattle.someip_world_setup_parts.specs.Values.{SetupValue}
+use Rattle.someip_world_setup_keys.specs.Values.{SetupValue}
 use Rattle.someip_c_node.specs.declared.outcome.Outcome.{Outcome}
 use Rattle.someip_c_node.specs.declared.outcome.Outcome.TheVariants.{BadDelay, NotText}
 use Rattle.someip_c_node.specs.Calls.{CNodeView}

@@ -3,15 +3,15 @@ use Rattle.std.specs.Prelude.{◌≡◌, ℕ, true, bytes_eq, string_bytes, List
 use Rattle.toml.specs.Data.{Data}
 use Rattle.someip_node_rules.specs.trails.Copies.{IsCopy}
 use Rattle.someip_node_rules.specs.declared.config.Config.{Config}
-use Rattle.someip_world_setup_parts.specs.declared.error.SetupError.{SetupError}
-use Rattle.someip_world_setup_parts.specs.declared.error.SetupError.TheVariants as setup
+use Rattle.someip_world_setup_keys.specs.declared.error.SetupError.{SetupError}
+use Rattle.someip_world_setup_keys.specs.declared.error.SetupError.TheVariants as setup
 use Rattle.someip_world_setup.specs.declared.setup_node.SetupNode.{SetupNode}
-use Rattle.someip_world_setup_parts.specs.Clashes.{has_clash}
-use Rattle.someip_world_setup_parts.specs.KnownKeys.{has_unknown_key}
-use Rattle.someip_world_setup_parts.specs.Made.{config_made, config_view}
+use Rattle.someip_world_setup_keys.specs.Clashes.{has_clash}
+use Rattle.someip_world_setup_keys.specs.KnownKeys.{has_unknown_key}
+use Rattle.someip_world_setup_keys.specs.Made.{config_made, config_view}
 use Rattle.someip_world_setup.specs.Readings.{setup_of_text, tree_of}
-use Rattle.someip_world_setup_parts.specs.Says.{said_setup}
-use Rattle.someip_world_setup_parts.specs.Values.{NodeValue, SetupValue, common_view}
+use Rattle.someip_world_setup_keys.specs.SaidByKeys.{said_setup}
+use Rattle.someip_world_setup_keys.specs.Values.{NodeValue, SetupValue, common_view}
 use Rattle.someip_c_node.specs.declared.outcome.Outcome.{Outcome}
 use Rattle.someip_c_node.specs.declared.outcome.Outcome.TheVariants.{Clash, Missing, NoSuchNode, NotToml, OutOfMemory, OutOfRange, UnknownKey, WrongKind}
 

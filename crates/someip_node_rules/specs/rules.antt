@@ -13,4 +13,5 @@ pub mod ClientSubscribing
 pub mod Plans
 pub mod Handling
 pub mod Inputs
+pub mod DropNames
 pub mod Errors

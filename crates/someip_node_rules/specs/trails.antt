@@ -1,6 +1,5 @@
 -- Which rule gave what, for those who prove more of nodes.
 pub mod Copies
-pub mod Names
 pub mod Trails
 pub mod Packets
 pub mod Replies

@@ -3,7 +3,7 @@
 //! The names `WrongType` and `NotPending` come from two tables each: a drop holds the reason of the core
 //! that judged (`DropReason::Answer`, `DropReason::Request`), and its text is the name.
 ghost use Rattle.std.specs.Prelude.{◌≡◌};
-ghost use Rattle.someip_node_rules.specs.trails.Names.{drop_name};
+ghost use Rattle.someip_node_rules.specs.rules.DropNames.{drop_name};
 
 use sd_wire::SdError;
 use someip_reassembly::TpError;

@@ -2,7 +2,7 @@
 ghost use Rattle.std.specs.Prelude.{◌≡◌};
 ghost use Rattle.someip_node_rules.specs.declared.error.NodeError.TheVariants.{OutOfMemory};
 ghost use Rattle.someip_node_rules.specs.rules.Errors.{rpc_error};
-ghost use Rattle.someip_node_rules.specs.trails.Names.{node_error_name};
+ghost use Rattle.someip_node_rules.specs.rules.DropNames.{node_error_name};
 
 use someip_rpc::RpcError;
 use std::alloc::{AllocError, AllocFailed};

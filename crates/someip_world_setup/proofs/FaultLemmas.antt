@@ -1,15 +1,15 @@
 -- The faults that errors tell.
 use Rattle.std.proofs.Common.{Some, Err, ◌≡◌}
 use Rattle.toml.specs.Data.{Data}
-use Rattle.someip_world_setup_parts.specs.declared.error.SetupError.{SetupError}
-use Rattle.someip_world_setup_parts.specs.declared.error.SetupError.TheVariants as errors
+use Rattle.someip_world_setup_keys.specs.declared.error.SetupError.{SetupError}
+use Rattle.someip_world_setup_keys.specs.declared.error.SetupError.TheVariants as errors
 use Rattle.someip_world_setup.specs.Readings.{HasFault}
-use Rattle.someip_world_setup_parts.specs.Refusals.{RefusesKey, RefusesClash}
-use Rattle.someip_world_setup_parts.specs.Keys.{TellsNotFound}
-use Rattle.someip_world_setup_parts.specs.KnownKeys.{has_unknown_key}
-use Rattle.someip_world_setup_parts.specs.Clashes.{has_clash}
-use Rattle.someip_world_setup_parts.specs.Says.{said_setup}
-use Rattle.someip_world_setup_parts.specs.Values.{SetupValue}
+use Rattle.someip_world_setup_keys.specs.Refusals.{RefusesKey, RefusesClash}
+use Rattle.someip_world_setup_keys.specs.Keys.{TellsNotFound}
+use Rattle.someip_world_setup_keys.specs.KnownKeys.{has_unknown_key}
+use Rattle.someip_world_setup_keys.specs.Clashes.{has_clash}
+use Rattle.someip_world_setup_keys.specs.SaidByKeys.{said_setup}
+use Rattle.someip_world_setup_keys.specs.Values.{SetupValue}
 
 pub unknown_refuses : (d : Data) (e : SetupError) → RefusesKey (has_unknown_key d) (Err e) → HasFault d e
 unknown_refuses d errors.NotToml h = absurd h

@@ -21,16 +21,16 @@ use Rattle.someip_node_rules.specs.declared.config.WantedService.{WantedService}
 use Rattle.someip_node_rules.specs.forms.GoodConfigs.{is_within, is_good_common, is_good_port, is_good_offer, is_good_want, has_own_ports, is_good}
 use Rattle.someip_node_rules.specs.rules.Handling.{same_address}
 use Rattle.someip_world_setup.specs.declared.setup_node.SetupNode.{SetupNode}
-use Rattle.someip_world_setup_parts.specs.Keys.{is_name}
-use Rattle.someip_world_setup_parts.specs.Clashes.{has_repeat, same_number, same_instance, has_equal_names, has_equal_addresses, has_equal_ports, offered_by, has_equal_offers, has_equal_wants, has_equal_ids_offered, has_equal_ids_wanted, has_equal_ids_of, has_liar_offers, has_liar_wants, has_liar_tables, has_clash}
+use Rattle.someip_world_setup_keys.specs.Keys.{is_name}
+use Rattle.someip_world_setup_keys.specs.Clashes.{has_repeat, same_number, same_instance, has_equal_names, has_equal_addresses, has_equal_ports, offered_by, has_equal_offers, has_equal_wants, has_equal_ids_offered, has_equal_ids_wanted, has_equal_ids_of, has_liar_offers, has_liar_wants, has_liar_tables, has_clash}
 use Rattle.someip_world_setup.specs.GoodSetups.{IsGoodNode, instances_of, IsGoodNetwork}
-use Rattle.someip_world_setup_parts.specs.Values.{OfferValue, NodeValue, common_view}
-use Rattle.someip_world_setup_parts.specs.Made.{OfferMade, ConfigMade, plain_entries, offered_view, wanted_view, config_view, keyed_offer, keyed_want, offers_made, wants_made, config_made}
+use Rattle.someip_world_setup_keys.specs.Values.{OfferValue, NodeValue, common_view}
+use Rattle.someip_world_setup_keys.specs.Made.{OfferMade, ConfigMade, plain_entries, offered_view, wanted_view, config_view, keyed_offer, keyed_want, offers_made, wants_made, config_made}
 use Rattle.someip_world_setup.specs.NodesMade.{NodeMade, made_view, node_made}
-use Rattle.someip_world_setup_parts.proofs.MakingLemmas.{map_after}
-use Rattle.someip_world_setup_parts.proofs.OrderLemmas.{all-permutation, repeat-permutation, repeat-append}
-use Rattle.someip_world_setup_parts.proofs.RangeLemmas.{NodeRange, SetupRange}
-use Rattle.someip_world_setup_parts.proofs.NodeLemmas.{addresses_alike, good_offer_made, good_want_made, offers_seen, wants_seen, good_port, offers_pass, wants_pass, offers-permutation, wants-permutation}
+use Rattle.someip_world_setup_keys.proofs.MakingLemmas.{map_after}
+use Rattle.someip_world_setup_keys.proofs.OrderLemmas.{all-permutation, repeat-permutation, repeat-append}
+use Rattle.someip_world_setup_keys.proofs.RangeLemmas.{NodeRange, SetupRange}
+use Rattle.someip_world_setup_keys.proofs.NodeLemmas.{addresses_alike, good_offer_made, good_want_made, offers_seen, wants_seen, good_port, offers_pass, wants_pass, offers-permutation, wants-permutation}
 
 -- ---- an index of what has a port each has as many entries
 

@@ -3,7 +3,7 @@ use Rattle.std.specs.Prelude.{ℕ, true, false, codes, List, [], ◌∷◌, ◌+
 use Rattle.std.specs.List.{flat_map}
 use Rattle.std.specs.declared.net.ipv4_addr.Ipv4Addr.{Ipv4Addr}
 use Rattle.toml.specs.Data.{Data, array, table, no_items, item, no_members, member}
-use Rattle.someip_world_setup_parts.specs.Values.{OfferValue, WantValue, NodeValue, SetupValue}
+use Rattle.someip_world_setup_keys.specs.Values.{OfferValue, WantValue, NodeValue, SetupValue}
 
 -- ---- setups
 

@@ -11,8 +11,8 @@ use Rattle.std.specs.Coded.{Coded, code_by, coded×, coded_list}
 use Rattle.someip_node_rules.specs.contracts.config.Common as common
 use Rattle.someip_world_setup.specs.contracts.setup_node.SetupNode as node
 use Rattle.someip_world_setup.specs.declared.setup_node.SetupNode.{SetupNode}
-use Rattle.someip_world_setup_parts.specs.Keys.{is_name}
-use Rattle.someip_world_setup_parts.specs.Clashes.{has_repeat, same_instance}
+use Rattle.someip_world_setup_keys.specs.Keys.{is_name}
+use Rattle.someip_world_setup_keys.specs.Clashes.{has_repeat, same_instance}
 
 -- what the nodes of a network share, and the nodes
 pub record Network : Type 0 where

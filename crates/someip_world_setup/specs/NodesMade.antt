@@ -2,8 +2,8 @@
 use Rattle.std.specs.Prelude.{ℕ, Bool, List, string_bytes}
 use Rattle.someip_node_rules.specs.declared.config.Common.{Common}
 use Rattle.someip_world_setup.specs.declared.setup_node.SetupNode.{SetupNode}
-use Rattle.someip_world_setup_parts.specs.Values.{NodeValue}
-use Rattle.someip_world_setup_parts.specs.Made.{ConfigMade, config_view, config_made}
+use Rattle.someip_world_setup_keys.specs.Values.{NodeValue}
+use Rattle.someip_world_setup_keys.specs.Made.{ConfigMade, config_view, config_made}
 
 -- a node with its configuration
 pub record NodeMade : Type 0 where

@@ -3,13 +3,13 @@ use Rattle.std.specs.Prelude.{◌≡◌, ℕ, true, List, map, if◌then◌else�
 use Rattle.std.specs.Option.{option_map}
 use Rattle.toml.specs.Data.{Data, table}
 use Rattle.toml.specs.Parse.{parse_document}
-use Rattle.someip_world_setup_parts.specs.declared.error.SetupError.{SetupError}
-use Rattle.someip_world_setup_parts.specs.declared.error.SetupError.TheVariants.{NotToml, Missing, WrongKind, OutOfRange, UnknownKey, Clash, OutOfMemory}
-use Rattle.someip_world_setup_parts.specs.Keys.{◌>>=◌}
-use Rattle.someip_world_setup_parts.specs.KnownKeys.{has_unknown_key}
-use Rattle.someip_world_setup_parts.specs.Says.{said_setup}
-use Rattle.someip_world_setup_parts.specs.Values.{SetupValue, common_view}
-use Rattle.someip_world_setup_parts.specs.Clashes.{has_clash}
+use Rattle.someip_world_setup_keys.specs.declared.error.SetupError.{SetupError}
+use Rattle.someip_world_setup_keys.specs.declared.error.SetupError.TheVariants.{NotToml, Missing, WrongKind, OutOfRange, UnknownKey, Clash, OutOfMemory}
+use Rattle.someip_world_setup_keys.specs.Keys.{◌>>=◌}
+use Rattle.someip_world_setup_keys.specs.KnownKeys.{has_unknown_key}
+use Rattle.someip_world_setup_keys.specs.SaidByKeys.{said_setup}
+use Rattle.someip_world_setup_keys.specs.Values.{SetupValue, common_view}
+use Rattle.someip_world_setup_keys.specs.Clashes.{has_clash}
 use Rattle.someip_world_setup.specs.GoodSetups.{Network}
 use Rattle.someip_world_setup.specs.NodesMade.{made_view, node_made}
 

@@ -1,11 +1,11 @@
 //! From what a setup says to its nodes.
 ghost use Rattle.std.specs.Prelude.{◌≡◌, map, IfOk};
-ghost use Rattle.someip_world_setup_parts.specs.Values.{node_view};
+ghost use Rattle.someip_world_setup_keys.specs.Values.{node_view};
 ghost use Rattle.someip_world_setup.specs.NodesMade.{node_made, made_view};
 
 use crate::setup_node::SetupNode;
 use someip_node_rules::Common;
-use someip_world_setup_parts::{NodeParts, config};
+use someip_world_setup_keys::{NodeParts, config};
 use std::alloc::{AllocError, Global};
 
 /// A node with its configuration.

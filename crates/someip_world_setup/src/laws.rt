@@ -4,10 +4,10 @@ ghost use Rattle.std.specs.Prelude.{◌≡◌, true, false, codes, [], ◌∷◌
 ghost use Rattle.std.specs.List.{All};
 ghost use Rattle.toml.specs.Data.{Data};
 ghost use Rattle.someip_node_rules.specs.forms.GoodConfigs.{is_good, is_good_delay};
-ghost use Rattle.someip_world_setup_parts.specs.Clashes.{has_repeat, same_number, has_clash};
+ghost use Rattle.someip_world_setup_keys.specs.Clashes.{has_repeat, same_number, has_clash};
 ghost use Rattle.someip_world_setup.specs.Examples.{group_address, local_address, offer_with, offer_at, want_with, node_with, lying, alone_with, offering, beside, also_offering, wanting, keyed, tree_with_node, tree_with_offer, tree_with_want, tree_with_event, tree_with_eventgroup, text_with, two_nodes};
 ghost use Rattle.someip_world_setup.specs.GoodSetups.{Network, IsGoodNetwork};
-ghost use Rattle.someip_world_setup_parts.specs.KnownKeys.{has_unknown_key};
+ghost use Rattle.someip_world_setup_keys.specs.KnownKeys.{has_unknown_key};
 ghost use Rattle.someip_world_setup.specs.Readings.{setup_of_text};
 
 /// No node of a setup is refused when it is started: `someip_node::Node::start` refuses one exactly

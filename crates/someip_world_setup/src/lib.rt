@@ -13,4 +13,4 @@ mod setup_node;
 
 pub use setup::Setup;
 pub use setup_node::SetupNode;
-pub use someip_world_setup_parts::SetupError;
+pub use someip_world_setup_keys::SetupError;

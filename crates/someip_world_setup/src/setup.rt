@@ -7,7 +7,7 @@ ghost use Rattle.someip_world_setup.specs.Readings.{tree_of, sound_setup_of, set
 use crate::building::built_nodes;
 use crate::setup_node::SetupNode;
 use someip_node_rules::Common;
-use someip_world_setup_parts::{SetupError, parts_of, refuse_clashes, refuse_unknown};
+use someip_world_setup_keys::{SetupError, parts_of, refuse_clashes, refuse_unknown};
 use std::alloc::Global;
 use std::marker::Model;
 use toml::Value;

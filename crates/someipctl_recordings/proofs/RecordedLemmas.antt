@@ -9,7 +9,8 @@ use Rattle.recording.specs.Packets.{DatagramValue, datagram, other}
 use Rattle.recording.specs.Records.{Item}
 use Rattle.someipctl_recordings.specs.declared.left_out.LeftOut.{LeftOut}
 use Rattle.someipctl_recordings.specs.LeftOut.{counted, left_out_of, nothing_left_out, plus}
-use Rattle.someipctl_recordings.specs.RecordedText.{AskedValue, Progress, after_all, after_datagram, asked_in, asked_of, recorded_from, recorded_text}
+use Rattle.someipctl_recordings.specs.Asked.{AskedValue, asked_in, asked_of}
+use Rattle.someipctl_recordings.specs.RecordedText.{Progress, after_all, after_datagram, recorded_from, recorded_text}
 use Rattle.someipctl_recordings.specs.RecordingResult.{fault_among}
 
 -- ---- what is left out

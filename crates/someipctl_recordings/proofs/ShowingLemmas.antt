@@ -16,7 +16,8 @@ use Rattle.someipctl_recordings.specs.declared.recordings.ShownRecording.{ShownR
 use Rattle.someipctl_recordings.specs.Gathered.{StoreValue}
 use Rattle.someipctl_recordings.specs.declared.left_out.LeftOut.{LeftOut}
 use Rattle.someipctl_recordings.specs.LeftOut.{left_out_of, nothing_left_out, plus, total}
-use Rattle.someipctl_recordings.specs.RecordedText.{AskedValue, Progress, after_all, asked_of, at_first, is_asked, recorded_from}
+use Rattle.someipctl_recordings.specs.Asked.{AskedValue, asked_of, is_asked}
+use Rattle.someipctl_recordings.specs.RecordedText.{Progress, after_all, at_first, recorded_from}
 use Rattle.someipctl_recordings.specs.Coming.{Comes}
 use Rattle.someipctl_recordings.specs.RecordingResult.{BeginsRecording, PutsRecording, ShowsRecording, fault_among, progress_of, shown_recording, text_of}
 use Rattle.someipctl_recordings.proofs.ComingLemmas.{begin, comes_both, comes_none, whole_file, part_file}

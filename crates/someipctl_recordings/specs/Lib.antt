@@ -4,6 +4,7 @@ pub mod WholeLimits
 pub mod Heads
 pub mod Moments
 pub mod Gathered
+pub mod Asked
 pub mod RecordedText
 pub mod Scenes
 pub mod RecordingResult

@@ -20,7 +20,8 @@ use Rattle.someipctl_io.specs.Outcomes.{fault_outcome}
 use Rattle.someipctl_io.specs.Sending.{Sends}
 use Rattle.someipctl_recordings.specs.LeftOut.{left_out_of, nothing_left_out}
 use Rattle.someipctl_recordings.specs.Gathered.{StoreValue}
-use Rattle.someipctl_recordings.specs.RecordedText.{AskedValue, Progress, after_all, asked_of, at_first, recorded_from}
+use Rattle.someipctl_recordings.specs.Asked.{AskedValue, asked_of}
+use Rattle.someipctl_recordings.specs.RecordedText.{Progress, after_all, at_first, recorded_from}
 
 -- ---- what is asked for
 

@@ -5,7 +5,8 @@ ghost use Rattle.recording.specs.Packets.{DatagramValue};
 ghost use Rattle.someipctl_show.specs.ShownText.{has_fault, text_from};
 ghost use Rattle.std.specs.List.{list_any};
 ghost use Rattle.std.specs.Prelude.{◌||◌};
-ghost use Rattle.someipctl_recordings.specs.RecordedText.{AskedValue, Progress, after_all, recorded_from};
+ghost use Rattle.someipctl_recordings.specs.Asked.{AskedValue};
+ghost use Rattle.someipctl_recordings.specs.RecordedText.{Progress, after_all, recorded_from};
 
 /// Without `--endpoints` and `--whole`, `recording` prints of datagrams what `show` prints of a capture
 /// that holds them, and ends as `show` does.

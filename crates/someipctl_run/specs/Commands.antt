@@ -11,7 +11,7 @@ use Rattle.someip_world_schedule.specs.Schedule.{first_bad, steps_of}
 use Rattle.someip_world_schedule.specs.declared.step.Step.{Step}
 use Rattle.someip_world_setup.specs.GoodSetups.{Network}
 use Rattle.someip_world_setup.specs.Readings.{HasValues, TextHasFault, setup_of_text, tree_of}
-use Rattle.someip_world_setup_parts.specs.declared.error.SetupError.TheVariants as errors
+use Rattle.someip_world_setup_keys.specs.declared.error.SetupError.TheVariants as errors
 use Rattle.someip_world_setup.specs.declared.setup_node.SetupNode.{SetupNode}
 use Rattle.someipctl_io.specs.Inputs.{WasLeft}
 use Rattle.someipctl_run.specs.Traces.{formed_trace, trace_text}

@@ -6,7 +6,7 @@ use Rattle.someip_world_rules.specs.declared.reuse.Reuse.{Reuse}
 use Rattle.someip_texts.specs.Lines.{lines_of}
 use Rattle.someip_world_schedule.specs.Schedule.{lines_of_steps, steps_of}
 use Rattle.someip_world_schedule.specs.Steps.{step_in}
-use Rattle.someip_world_setup_parts.specs.declared.error.SetupError.TheVariants as errors
+use Rattle.someip_world_setup_keys.specs.declared.error.SetupError.TheVariants as errors
 use Rattle.someip_world_setup.specs.declared.setup_node.SetupNode.{SetupNode}
 use Rattle.someipctl_run.specs.Commands.{RefusesInput}
 use Rattle.someipctl_run.specs.Traces.{came_by_text, formed_trace, trace_text}

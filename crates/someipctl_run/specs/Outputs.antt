@@ -1,6 +1,6 @@
 -- What a line of a trace tells, word by word.
 use Rattle.std.specs.Prelude.{ℕ, List, [], ◌∷◌, codes, decimal}
-use Rattle.someip_node_rules.specs.trails.Names.{node_error_name}
+use Rattle.someip_node_rules.specs.rules.DropNames.{node_error_name}
 use Rattle.someip_node_rules.specs.forms.OutputWords.{output_words}
 use Rattle.someip_world_rules.specs.declared.line.Told.{Told}
 use Rattle.someip_world_rules.specs.declared.line.Told.TheVariants.{Gave, Refused}

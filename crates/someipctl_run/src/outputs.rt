@@ -3,7 +3,7 @@ ghost use Rattle.std.specs.Prelude.{◌≡◌, ◌∷◌, [], IfOk, OnOk, OnErr,
 ghost use Rattle.someip_texts.specs.Words.{word_text};
 ghost use Rattle.someipctl_io.specs.Sending.{Sends, Stops};
 ghost use Rattle.someipctl_io.specs.Words.{ended};
-ghost use Rattle.someip_node_rules.specs.trails.Names.{node_error_name};
+ghost use Rattle.someip_node_rules.specs.rules.DropNames.{node_error_name};
 ghost use Rattle.someipctl_run.specs.Outputs.{told_words};
 
 use someip_node::{NodeError, Output};

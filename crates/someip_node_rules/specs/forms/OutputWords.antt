@@ -6,7 +6,7 @@ use Rattle.someip_texts.specs.Words.{bytes_text, hex2, hex4, ids_text, words_tex
 use Rattle.sd_core.specs.declared.keys.InstanceId.{InstanceId}
 use Rattle.sd_core.specs.Names.{cause_name}
 use Rattle.someip_rpc.specs.declared.ids.MessageId.{MessageId}
-use Rattle.someip_node_rules.specs.trails.Names.{drop_name}
+use Rattle.someip_node_rules.specs.rules.DropNames.{drop_name}
 use Rattle.someip_node_rules.specs.declared.output.Output.{Output}
 use Rattle.someip_node_rules.specs.declared.output.Output.TheVariants.{Sent, Called, Request, Answered, TimedOut, Event, Known, Gone, Subscribed, Unsubscribed, Accepted, Nacked, Rebooted, Dropped}
 

@@ -7,7 +7,7 @@ use Rattle.someip_tables.proofs.Entries.{own_test}
 use Rattle.someip_tables.specs.EndpointOrder.{addresses_total}
 use Rattle.someip_node_rules.specs.declared.config.Config.{Config}
 use Rattle.someip_node_rules.specs.rules.Handling.{same_address}
-use Rattle.someip_world_setup_parts.specs.Clashes.{has_repeat}
+use Rattle.someip_world_setup_keys.specs.Clashes.{has_repeat}
 use Rattle.someip_world_setup.specs.GoodSetups.{IsGoodNetwork, IsGoodNode, Network, addresses_of}
 use Rattle.someip_world_setup.specs.declared.setup_node.SetupNode.{SetupNode}
 use Rattle.someip_world_rules.specs.Runs.{AreCopies}

@@ -15,7 +15,7 @@ use Rattle.someip_node_rules.specs.declared.config.OfferedService.{OfferedServic
 use Rattle.someip_node_rules.proofs.forms.GoodConfigParts.{good_offers, own_address}
 use Rattle.someip_node_rules.specs.forms.GoodConfigs.{is_good, is_good_offer}
 use Rattle.someip_node_rules.proofs.lists.MemberLemmas.{all_both, at_member}
-use Rattle.someip_world_setup_parts.specs.Clashes.{has_repeat, same_instance}
+use Rattle.someip_world_setup_keys.specs.Clashes.{has_repeat, same_instance}
 use Rattle.someip_world_setup.specs.GoodSetups.{IsGoodNetwork, IsGoodNode, Network, instances_of}
 use Rattle.someip_world_setup.specs.declared.setup_node.SetupNode.{SetupNode}
 use Rattle.someip_world_rules.specs.Runs.{AreCopies}

@@ -1,7 +1,7 @@
 use Rattle.std.proofs.Common.{◌∙◌}
-use Rattle.someip_world_setup_parts.specs.Values.{node_view}
+use Rattle.someip_world_setup_keys.specs.Values.{node_view}
 use Rattle.someip_world_setup.specs.NodesMade.{node_made}
-use Rattle.someip_world_setup_parts.proofs.MakingLemmas.{all_made, map_after}
+use Rattle.someip_world_setup_keys.proofs.MakingLemmas.{all_made, map_after}
 use Rattle.someip_world_setup.proofs.building.built_nodes.Goals as goal
 
 pub returns : goal.returns

@@ -1,8 +1,8 @@
 use Rattle.std.proofs.Common.{refl}
 use Rattle.std.specs.Net.Reader.{read_ipv4, read_octet, read_number}
 use Rattle.toml.proofs.OnLiterals.{toml_on_literals}
-use Rattle.someip_world_setup_parts.specs.Keys.{address_of}
-use Rattle.someip_world_setup_parts.specs.Lists.{found_at_each}
+use Rattle.someip_world_setup_keys.specs.Keys.{address_of}
+use Rattle.someip_world_setup_keys.specs.Lists.{found_at_each}
 use Rattle.someip_world_setup.proofs.laws.what_texts_say.Goals as goal
 
 pub returns-clause-values : goal.returns-clause-values

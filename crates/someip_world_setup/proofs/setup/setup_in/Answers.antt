@@ -1,9 +1,9 @@
 use Rattle.std.proofs.Common.{map}
 use Rattle.std.proofs.lemmas.Result.{err_from_is_err_and}
 use Rattle.toml.specs.View.{view}
-use Rattle.someip_world_setup_parts.proofs.RangeLemmas.{SetupRange, setup_in}
-use Rattle.someip_world_setup_parts.specs.Says.{said_setup}
-use Rattle.someip_world_setup_parts.specs.Values.{node_view, parts_view}
+use Rattle.someip_world_setup_keys.proofs.RangeLemmas.{SetupRange, setup_in}
+use Rattle.someip_world_setup_keys.specs.SaidByKeys.{said_setup}
+use Rattle.someip_world_setup_keys.specs.Values.{node_view, parts_view}
 use Rattle.someip_world_setup.proofs.NetworkLemmas.{good_network, at_some}
 use Rattle.someip_world_setup.proofs.FaultLemmas.{parts_refuse, unknown_refuses, clash_refuses}
 use Rattle.someip_world_setup.proofs.setup.setup_in.Goals as goal

@@ -7,7 +7,8 @@ use Rattle.someip_wire.specs.Spelling.{MessageValue}
 use Rattle.someip_wire.specs.Reading.{items_of}
 use Rattle.someipctl_io.specs.Items.{item_len, item_lines}
 use Rattle.someipctl_show.specs.ShownText.{datagram_text, has_fault, lines_from, shows_fault, text_from, value_of_item}
-use Rattle.someipctl_recordings.specs.RecordedText.{AskedValue, Progress, Scene, after_all, after_datagram, headed_text, has_fault_with, lines_of_bytes, lines_with, recorded_from, scene_of, scene_text, store_after_all}
+use Rattle.someipctl_recordings.specs.Asked.{AskedValue}
+use Rattle.someipctl_recordings.specs.RecordedText.{Progress, Scene, after_all, after_datagram, headed_text, has_fault_with, lines_of_bytes, lines_with, recorded_from, scene_of, scene_text, store_after_all}
 use Rattle.someipctl_recordings.proofs.laws.recordings_print_what_show_prints.Goals as goal
 
 -- without a store

@@ -1,0 +1,13 @@
+use Rattle.std.proofs.Common.{map, sym, ◌∙◌}
+use Rattle.std.specs.List.{list_any}
+use Rattle.std.specs.Option.{is_some}
+use Rattle.toml.specs.View.{view}
+use Rattle.someip_world_setup_keys.specs.KnownKeys.{has_unknown, listed_at}
+use Rattle.someip_texts.proofs.FoundLemmas.{all_asked}
+use Rattle.someip_world_setup_keys.proofs.FoundLemmas.{list_any-flat_map}
+use Rattle.someip_world_setup_keys.proofs.unknown.unknown_at.Goals as goal
+
+pub returns : goal.returns
+returns c =
+    all_asked (λ d. list_any (has_unknown c.args.subject) (listed_at c.args.key.now d)) view (is_some c.loop-table.least) c.loop-table.table-index c.args.tables.now c.loop-table-test.false c.loop-table.invariant
+    ∙ sym (list_any-flat_map (has_unknown c.args.subject) (listed_at c.args.key.now) (map view c.args.tables.now))

@@ -1,7 +1,0 @@
-use Rattle.std.proofs.Common.{◌≡◌, map, drop, bytes_eq, string_bytes}
-use Rattle.someip_world_setup_parts.specs.Clashes.{has_repeat}
-use Rattle.someip_world_setup_parts.proofs.clashes.has_equal_names.Given as goal
-
--- the names of the rest repeat where those of all do
-abbrev pub invariant-loop-i : goal.invariant-loop-i
-invariant-loop-i l = has_repeat bytes_eq (map (λ n. string_bytes n.name) (drop l.i l.nodes)) ≡ has_repeat bytes_eq (map (λ n. string_bytes n.name) l.nodes)

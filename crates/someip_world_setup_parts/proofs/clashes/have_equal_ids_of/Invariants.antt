@@ -1,8 +1,0 @@
-use Rattle.std.proofs.Common.{false}
-use Rattle.someip_world_setup_parts.specs.Clashes.{has_equal_ids_of}
-use Rattle.someip_world_setup_parts.specs.Values.{node_view}
-use Rattle.someip_texts.proofs.FoundLemmas.{HasFound}
-use Rattle.someip_world_setup_parts.proofs.clashes.have_equal_ids_of.Given as goal
-
-abbrev pub invariant-loop-node : goal.invariant-loop-node
-invariant-loop-node l = HasFound has_equal_ids_of node_view false l.node-index l.nodes

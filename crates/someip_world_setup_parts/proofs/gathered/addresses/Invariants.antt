@@ -1,6 +1,0 @@
-use Rattle.std.proofs.Common.{◌∷◌, map}
-use Rattle.someip_world_setup_parts.proofs.GatheredLemmas.{HasGathered}
-use Rattle.someip_world_setup_parts.proofs.gathered.addresses.Given as goal
-
-abbrev pub invariant-loop-node : goal.invariant-loop-node
-invariant-loop-node l = HasGathered (λ n. n.address) l.addresses.items l.node-index l.nodes (l.fn.group ∷ map (λ n. n.address) l.nodes)

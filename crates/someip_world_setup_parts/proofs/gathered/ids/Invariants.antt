@@ -1,6 +1,0 @@
-use Rattle.std.proofs.Common.{map}
-use Rattle.someip_world_setup_parts.proofs.GatheredLemmas.{HasGathered}
-use Rattle.someip_world_setup_parts.proofs.gathered.ids.Given as goal
-
-abbrev pub invariant-loop-list : goal.invariant-loop-list
-invariant-loop-list l = HasGathered (λ x. x.id) l.ids.items l.list-index l.lists (map (λ x. x.id) l.lists)

@@ -1,8 +1,0 @@
-use Rattle.std.specs.List.{flat_map}
-use Rattle.someip_world_setup_parts.specs.Clashes.{offered_by}
-use Rattle.someip_world_setup_parts.specs.Values.{node_view}
-use Rattle.someip_world_setup_parts.proofs.GatheredLemmas.{HasGatheredLists}
-use Rattle.someip_world_setup_parts.proofs.gathered.offered.Given as goal
-
-abbrev pub invariant-loop-node : goal.invariant-loop-node
-invariant-loop-node l = HasGatheredLists (λ n. offered_by (node_view n)) l.instances.items l.node-index l.nodes (flat_map (λ n. offered_by (node_view n)) l.nodes)

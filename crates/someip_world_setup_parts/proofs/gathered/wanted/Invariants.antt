@@ -1,8 +1,0 @@
-use Rattle.std.proofs.Common.{map}
-use Rattle.someip_world_setup_parts.specs.Clashes.{wanted_id}
-use Rattle.someip_world_setup_parts.specs.Values.{want_view}
-use Rattle.someip_world_setup_parts.proofs.GatheredLemmas.{HasGathered}
-use Rattle.someip_world_setup_parts.proofs.gathered.wanted.Given as goal
-
-abbrev pub invariant-loop-want : goal.invariant-loop-want
-invariant-loop-want l = HasGathered (λ x. wanted_id (want_view x)) l.instances.items l.want-index l.node.wants.items (map (λ x. wanted_id (want_view x)) l.node.wants.items)

@@ -1,8 +1,0 @@
-use Rattle.std.proofs.Common.{◌∙◌, sym}
-use Rattle.std.proofs.lemmas.List.Folds.{list_all-map}
-use Rattle.toml.specs.View.{view}
-use Rattle.someip_world_setup_parts.specs.Lists.{is_table}
-use Rattle.someip_world_setup_parts.proofs.tables.are_tables.Goals as goal
-
-pub returns : goal.returns
-returns c = c.is_each_table.ensures ∙ sym (list_all-map is_table view c.args.list.now)

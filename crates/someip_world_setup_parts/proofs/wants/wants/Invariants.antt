@@ -1,8 +1,0 @@
-use Rattle.std.proofs.Common.{map}
-use Rattle.someip_world_setup_parts.specs.Values.{want_view}
-use Rattle.someip_world_setup_parts.specs.Says.{said_want}
-use Rattle.someip_world_setup_parts.proofs.ReadingLemmas.{HasRead}
-use Rattle.someip_world_setup_parts.proofs.wants.wants.Given as goal
-
-abbrev pub invariant-loop-table : goal.invariant-loop-table
-invariant-loop-table l = HasRead said_want (map want_view l.wants.items) l.table-index l.tables
