@@ -13,7 +13,8 @@
 //!    `SeekQuestions`, `WishQuestions`, and all answers together `Tables`, `Starts`, `History`.
 //! 3. `rules`: what it does: `Outcomes` and `Plans`, rule by rule `Messages`, `Learning`, `Offering`,
 //!    `ServerSubscribing`, `ClientSubscribing`, `Announcing`, `Ticking`, `Calling`, `Answering`,
-//!    `Publishing`, datagram by datagram `Handling`, input by input `Inputs`, `Errors`; the names of drops and refusals, `DropNames`.
+//!    `Publishing`, datagram by datagram `Handling`, input by input `Inputs`, `Errors`; and the names of
+//!    drops and refusals, `DropNames`.
 //! 4. `steps`: a step, and many of them: `Steps`, `Advances`, `Waking`, `Lives`, `Limits`,
 //!    `SubscriberLimits`.
 //! 5. `trails`: which rule gave what, for those who prove more of nodes: `Trails`, `Packets`,
