@@ -75,7 +75,7 @@ impl<S: Reassembly> Books<S> {
             (payload_shown now origin.now place session (reading payload.now)
             (working self.old findings.old.items)).told) }
     {
-        match SdError::apart(read_sd(alloc, payload))? {
+        match read_payload(alloc, payload)? {
             Ok(read) => self.saw_sd(now, origin, session, &read, findings),
             Err(fault) => tell(findings, Finding::MalformedSd(in_datagram(place, fault))),
         }
@@ -87,6 +87,13 @@ fn is_sd(origin: &Origin, header: &Header) -> bool
     ensures { result ≡ is_sd origin.now header.now }
 {
     is_at_discovery(origin) && header.is_discovery()
+}
+
+/// Reads a payload, and keeps want of memory apart.
+fn read_payload(alloc: Global, payload: &[u8]) -> Result<Result<SdRead, SdError>, AllocError>
+    ensures { IfOk result (λ found. result_map_both view_sd (λ e. e) found ≡ reading payload.now) }
+{
+    SdError::apart(read_sd(alloc, payload))
 }
 
 /// A fault of a payload that begins at a place of its datagram, with its place from the datagram's first

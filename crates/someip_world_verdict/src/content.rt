@@ -78,7 +78,7 @@ fn said_by_message(
     ensures { IfOk result (λ said. said.items ≡ said_by_message from to (view message.now)) }
 {
     if message.header.is_discovery() {
-        let found = SdError::apart(read_sd(alloc, message.payload))?;
+        let found = read_payload(alloc, message.payload)?;
         said_by_reading(alloc, *from.ip(), *to.ip(), found)
     } else {
         said_by_header(alloc, from, to, &whole_header(message.header))
@@ -162,6 +162,13 @@ fn event_key(server: SocketAddrV4, header: &Header) -> ExchangeKey
 }
 
 // ---- Service Discovery
+
+/// Reads a message, and keeps want of memory apart.
+fn read_payload(alloc: Global, payload: &[u8]) -> Result<Result<SdRead, SdError>, AllocError>
+    ensures { IfOk result (λ found. result_map_both view_sd (λ e. e) found ≡ reading payload.now) }
+{
+    SdError::apart(read_sd(alloc, payload))
+}
 
 /// What is said by what was read of a message.
 fn said_by_reading(

@@ -4,13 +4,14 @@ use Rattle.std.specs.Option.{is_some}
 use Rattle.std.proofs.lemmas.Bool.{ltb-true}
 use Rattle.std.specs.FinMap.{get, insert, len, contains_key, len-insert}
 use Rattle.someip_tables.proofs.MapLaws.{get-insert_own}
+use Rattle.someip_tables.specs.hashed.Rooms.{may_hold}
 use Rattle.audit_traffic.specs.declared.calls.call.AuditedCall.{AuditedCall}
 use Rattle.audit_traffic.specs.declared.calls.known.Known.{Known}
 use Rattle.audit_traffic.specs.declared.calls.known.Known.TheVariants.{Open, Overdue, Answered}
 use Rattle.audit_traffic.specs.declared.calls.known.OpenCall.{OpenCall}
 use Rattle.audit_traffic.specs.calls.CallTables.{unless_answered}
 use Rattle.audit_traffic.specs.calls.CallOrder.{calls_total, exact_calls}
-use Rattle.audit_traffic.specs.calls.CallBooks.{Calls, has_room, known, with_known}
+use Rattle.audit_traffic.specs.calls.CallBooks.{Calls, known, with_known}
 use Rattle.audit_traffic.specs.calls.KnownCalls.{known_at, known_by_answer, known_by_request}
 
 -- what was not known of a call changes the calls
@@ -33,14 +34,14 @@ known_alike now new (Some (Answered until)) = cases (nat_le until now)
     cases false = refl
 
 -- calls with one more that there is room for are within the limit
-within_put : (limit : ℕ) (calls : Calls) (call : AuditedCall) (what : Known) → has_room limit calls call ≡ true → len calls ≤ limit → len (insert calls call what) ≤ limit
+within_put : (limit : ℕ) (calls : Calls) (call : AuditedCall) (what : Known) → may_hold limit calls call ≡ true → len calls ≤ limit → len (insert calls call what) ≤ limit
 within_put limit calls call what room few = rw (len-insert calls_total calls call what) (cases (contains_key calls call) room)
   where
     cases : (b : Bool) → (b || nat_lt (len calls) limit) ≡ true → cond b (len calls) (len calls + 1) ≤ limit
     cases true may = few
     cases false may = let below : len calls < limit = ltb-true (len calls) limit may in omega (arith, below)
 
-pub within_room : (limit : ℕ) (calls next : Calls) (call : AuditedCall) (what : Known) (b : Bool) → has_room limit calls call ≡ b → len calls ≤ limit
+pub within_room : (limit : ℕ) (calls next : Calls) (call : AuditedCall) (what : Known) (b : Bool) → may_hold limit calls call ≡ b → len calls ≤ limit
     → next ≡ cond b (insert calls call what) calls → len next ≤ limit
 within_room limit calls next call what true room few is = rw is (within_put limit calls call what room few)
 within_room limit calls next call what false room few is = rw is few

@@ -1,19 +1,20 @@
 -- A book of calls, by the messages that it saw.
 use Rattle.std.specs.Prelude.{◌≡◌, ◌≤◌, ℕ, Bool, true, ◌⊎◌, List, Some}
 use Rattle.std.specs.FinMap as finite
+use Rattle.someip_tables.specs.hashed.Rooms.{may_hold}
 use Rattle.someip_wire.specs.declared.header.MessageType.{MessageType}
 use Rattle.someip_wire.specs.declared.header.MessageType.TheVariants.{Request}
 use Rattle.audit_traffic.specs.declared.calls.call.AuditedCall.{AuditedCall}
 use Rattle.audit_traffic.specs.declared.calls.known.Known.TheVariants.{Open, Overdue}
 use Rattle.audit_traffic.specs.declared.calls.known.OpenCall.{OpenCall}
-use Rattle.audit_traffic.specs.calls.CallBooks.{Book, has_room}
+use Rattle.audit_traffic.specs.calls.CallBooks.{Book}
 use Rattle.audit_traffic.specs.calls.CallHistory.{known_of}
 use Rattle.audit_traffic.specs.calls.KnownCalls.{known_at}
 use Rattle.audit_traffic.specs.calls.Tapped.{Tapped, call_asked}
 
 -- there is room for what a message opens: only a REQUEST asks for any
 abbrev pub finds_room_by : MessageType → Tapped → Book → Bool
-finds_room_by Request message book = has_room book.rules.limit book.calls (call_asked message)
+finds_room_by Request message book = may_hold book.rules.limit book.calls (call_asked message)
 finds_room_by _ message book = true
 
 abbrev pub finds_room : Tapped → Book → Bool

@@ -1,7 +1,8 @@
 -- A book of calls, and what a message makes of it.
-use Rattle.std.specs.Prelude.{ℕ, ◌+◌, nat_lt, Bool, true, false, ◌||◌, if◌then◌else◌, Option, None, Some, is_some}
+use Rattle.std.specs.Prelude.{ℕ, ◌+◌, nat_lt, Bool, true, false, ◌||◌, if◌then◌else◌, Option, None, Some}
 use Rattle.std.specs.FinMap as finite
 use Rattle.std.specs.FinMap.{FinMap}
+use Rattle.someip_tables.specs.hashed.Rooms.{may_hold}
 use Rattle.someip_wire.specs.declared.header.MessageType.{MessageType}
 use Rattle.someip_wire.specs.declared.header.MessageType.TheVariants.{Request, Response, Error}
 use Rattle.audit_traffic.specs.declared.calls.call.AuditedCall.{AuditedCall}
@@ -27,10 +28,6 @@ pub record Book : Type 0 where
 abbrev pub new_book : CallRules → Book
 new_book rules = record { rules = rules; calls = finite.empty; full = false }
 
--- there is room for a call: it is held, or fewer are held than the limit
-abbrev pub has_room : ℕ → Calls → AuditedCall → Bool
-has_room limit calls call = is_some (finite.get calls call) || nat_lt (finite.len calls) limit
-
 -- what is known of a call at a moment
 abbrev pub known : ℕ → Calls → AuditedCall → Option Known
 known now calls call = known_at now (finite.get calls call)
@@ -42,7 +39,7 @@ may_be_asked rules full now = nat_lt now (rules.begins + rules.answer_ms) || ful
 -- what is told of a message
 abbrev pub told_by : MessageType → Tapped → Book → Option CallFinding
 told_by Request message book =
-    if has_room book.rules.limit book.calls (call_asked message)
+    if may_hold book.rules.limit book.calls (call_asked message)
     then told_of_request message.header.session (opened book.rules message) (known message.now book.calls (call_asked message))
     else if book.full then None else Some Full
 told_by Response message book = told_of_answer (may_be_asked book.rules book.full message.now) message.now (known message.now book.calls (call_answered message))
@@ -65,7 +62,7 @@ calls_answered message book =
 -- the book then
 abbrev pub book_by : MessageType → Tapped → Book → Book
 book_by Request message book =
-    if has_room book.rules.limit book.calls (call_asked message)
+    if may_hold book.rules.limit book.calls (call_asked message)
     then record book { calls = finite.insert book.calls (call_asked message) (known_by_request (opened book.rules message) (known message.now book.calls (call_asked message))) }
     else record book { full = true }
 book_by Response message book = record book { calls = calls_answered message book }

@@ -6,10 +6,11 @@ ghost use Rattle.std.specs.Option.{option_and_then};
 ghost use Rattle.std.specs.Ordering.{is_le};
 ghost use Rattle.someip_tables.specs.Tables.{map_of};
 ghost use Rattle.someip_tables.specs.hashed.Dues.{IsFirstDue};
+ghost use Rattle.someip_tables.specs.hashed.Rooms.{may_hold};
 ghost use Rattle.audit_traffic.specs.calls.AuditedCalls.{call_cmp};
 ghost use Rattle.audit_traffic.specs.calls.KnownCalls.{waits_of, told_of_request, known_by_request};
 ghost use Rattle.audit_traffic.specs.calls.KnownCalls.{told_of_answer, known_by_answer};
-ghost use Rattle.audit_traffic.specs.calls.CallBooks.{has_room, known, may_be_asked, with_known};
+ghost use Rattle.audit_traffic.specs.calls.CallBooks.{known, may_be_asked, with_known};
 ghost use Rattle.audit_traffic.specs.calls.CallTables.{unless_answered};
 ghost use Rattle.audit_traffic.specs.calls.Overdue.{IsOpenCall, told_cmp, calls_after_due, with_room};
 ghost use Rattle.audit_traffic.specs.declared.calls.call.AuditedCall.{AuditedCall};
@@ -35,17 +36,17 @@ pub(crate) fn on_request(
 ) -> Result<Option<CallFinding>, AllocError>
     requires few { finite.len calls.old ≤ rules.now.limit }
     ensures told { IfOk result (λ finding. finding
-        ≡ (if has_room rules.now.limit calls.old call
+        ≡ (if may_hold rules.now.limit calls.old call
         then told_of_request call.session opened (known opened.since calls.old call)
         else if full.old then None else Some Full)) }
     ensures after { OnOk result (calls.new
-        ≡ (if has_room rules.now.limit calls.old call
+        ≡ (if may_hold rules.now.limit calls.old call
         then finite.insert calls.old call
         (known_by_request opened (known opened.since calls.old call))
         else calls.old)) }
-    ensures full { full.new ≡ (if has_room rules.now.limit calls.old call
+    ensures full { full.new ≡ (if may_hold rules.now.limit calls.old call
         then full.old else true) }
-    ensures room { OnErr result (has_room rules.now.limit calls.old call ≡ true) }
+    ensures room { OnErr result (may_hold rules.now.limit calls.old call ≡ true) }
     ensures grows { OnErr result (finite.insert calls.old call
         (known_by_request opened (known opened.since calls.old call))
         ≢ calls.old) }
@@ -68,7 +69,7 @@ pub(crate) fn on_request(
 fn has_room(calls: &CallTable, call: &AuditedCall, before: Option<Known>, limit: usize) -> bool
     requires few { finite.len calls.now ≤ limit }
     requires before { before ≡ unless_answered (finite.get calls.now call.now) }
-    ensures { result ≡ has_room limit calls.now call.now }
+    ensures { result ≡ may_hold limit calls.now call.now }
 {
     before.is_some() || calls.len(limit) < limit || calls.get(call).is_some()
 }
