@@ -1,11 +1,9 @@
 //! Messages of Service Discovery that come.
-ghost use Rattle.std.specs.Prelude.{◌≡◌, map, IfOk, OnOk};
-ghost use Rattle.std.specs.Result.{result_map_both};
+ghost use Rattle.std.specs.Prelude.{◌≡◌, map, OnOk};
 ghost use Rattle.someip_wire.specs.View.{view};
-ghost use Rattle.sd_wire.specs.decoding.Program.{reading};
 ghost use Rattle.sd_wire.specs.contents.Values.{view_read, view_sd};
 ghost use Rattle.someip_node_rules.specs.rules.Handling.{discovery_plan, entries_plan, heard_plan};
-ghost use Rattle.someip_node_rules.specs.rules.Handling.{is_valid_discovery, reading_plan};
+ghost use Rattle.someip_node_rules.specs.rules.Handling.{is_valid_discovery};
 ghost use Rattle.someip_node_rules.specs.forms.Receivers.{messages_plan_to};
 ghost use Rattle.someip_node_rules.specs.declared.receiver.Receiver.TheVariants.{Peer};
 ghost use Rattle.someip_node_rules.specs.rules.Plans.{plain, replying, run};

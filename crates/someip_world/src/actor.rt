@@ -25,7 +25,10 @@ pub(crate) enum Actor<R: Reassembly> {
 }
 
 /// A node of a setup, started with its delay, or a liar of it.
-pub(crate) fn started<R: Reassembly>(alloc: Global, node: &SetupNode) -> Result<Actor<R>, AllocError>
+pub(crate) fn started<R: Reassembly>(
+    alloc: Global,
+    node: &SetupNode,
+) -> Result<Actor<R>, AllocError>
     ensures { IfOk result (IsStarted node.now) }
 {
     if node.is_liar {

@@ -100,7 +100,7 @@ module _ (nodes : List SetupNode) (configs : List Config) (steps : List Step) wh
       → (of : TellsOf line (Subscribed eventgroup counter))
       × (IsCleanUpTo verdict line.step → IsSafelyAcknowledged nodes configs steps of.n eventgroup counter)
 
-  -- A run with a verdict, told by some lines, is safe. Up to the step that the verdict names, or in all steps, each answer and each
+  -- A run with a verdict, told by some lines, is safe. Before the step that the verdict names, or in all steps, each answer and each
   -- event that is handed up is safe, and each subscription that a client tells of or counts on; and so is what each line tells of
   -- answers, events and subscriptions. In all steps, events go to those who are subscribed, and the offers that nodes know are configured
   pub record IsSafe (lines : List Line) (verdict : Reuse) : Type 0 where
@@ -169,7 +169,7 @@ module _ (nodes : List SetupNode) (configs : List Config) (steps : List Step) wh
       × ((IsFromLiar nodes configs of.does.input → ⊥) → IsCleanUpTo verdict line.step
       → IsSafelyAcknowledged nodes configs steps of.n eventgroup counter)
 
-  -- A run with a verdict, told by some lines, is safe among liars. Up to the step that the verdict names, or in all steps, each
+  -- A run with a verdict, told by some lines, is safe among liars. Before the step that the verdict names, or in all steps, each
   -- answer and each event is safe that is handed up of a message that came from no liar, and each subscription that a client tells
   -- of or counts on, whose server is no liar; and so is what each line tells of these. In all steps, each node sends its events to those
   -- who are subscribed, and the offers that nodes know from peers that are no liars are configured
