@@ -1,8 +1,9 @@
 -- What clap's matches say of the command line.
-use Rattle.std.proofs.Common.{◌≡◌, ◌∙◌, ◌||◌, ◌==◌, Bool, cond, true, false, true≢false, refl, sym, ap, ap₂, subst, List, [], ◌∷◌, Option, Some, None, IsSome, is_some, codes, find, option_map, drop, Box, Result, ◌⊎◌, inl, inr}
+use Rattle.std.proofs.Common.{◌≡◌, ◌∙◌, ◌||◌, ◌==◌, Bool, cond, true, false, true≢false, refl, sym, ap, subst, List, [], ◌∷◌, Option, Some, None, IsSome, is_some, codes, find, option_map, drop, Box, Result, ◌⊎◌, inl, inr}
 use Rattle.std.specs.List.{list_all}
 use Rattle.std.specs.Option.{option_map_or}
-use Rattle.std.specs.Prelude.{IfOk}
+use Rattle.std.proofs.Math.Path.{fun_ext}
+use Rattle.std.specs.Prelude.{IfOk, option_and_then}
 use Rattle.std.specs.Str.{bytes_eq}
 use Rattle.std.proofs.lemmas.Slice.Eq.{bytes_eq-Decides}
 use Rattle.std.proofs.lemmas.Result.{IfOk-weaker}
@@ -25,7 +26,7 @@ use Rattle.clap.specs.declared.parser.matches.Found.{Found}
 use Rattle.clap.specs.declared.parser.matches.SubCommand.{SubCommand}
 use Rattle.clap.proofs.WalkLemmas.{first_value-rows}
 use Rattle.clap.proofs.OnLiterals.{clap_on_literals}
-use Rattle.someipctl_cli.specs.CommandLine.{HaveFault, IsLineErrorOf, IsTaken, RefusesWords, cli, is_flag, asked_by_subcommand, asked_by_entered, requested, asked_by_show, show_request, asked_by_payload, asked_by_run, asked_by_vectors, asked_by_recording, asked_by_chart, RecordingRequest, options_found, options_in, recording_options_of, AuditRequest, asked_by_audit, audit_options_found, audit_options_in, audit_options_of}
+use Rattle.someipctl_cli.specs.CommandLine.{HaveFault, IsLineErrorOf, IsTaken, RefusesWords, cli, is_flag, asked_by_subcommand, asked_by_entered, Request, requested, show_request}
 use Rattle.someipctl_cli.proofs.ClapWalkLemmas.{EntersNoHelp, enters_subcommand, has_value, is_wanted, wanted_value}
 
 -- a command alone, as it is among others
@@ -73,71 +74,28 @@ stop_asks : (a : App) → EachAsks a.subs → (stop : Option (Text × List Text)
 stop_asks a each None named none some = absurd (true≢false (sym some))
 stop_asks a each (Some p) named none some = found_asks p named a.subs each none some
 
--- `show` asks for something where its argument has a value
-show_some : (capture service types : Option Text) → is_some capture ≡ true → IsSome (asked_by_show capture service types)
-show_some None service types some = absurd (true≢false (sym some))
-show_some (Some capture) service types some = refl
+-- a value that is there, and what is asked for with it
+with_value : {A : Type 0} (value : Option Text) (asks : Text → A) → is_some value ≡ true → IsSome (option_map asks value)
+with_value None asks some = absurd (true≢false (sym some))
+with_value (Some v) asks some = refl
 
-show_asks : (s : Shape) → bytes_eq s.name (codes "show") ≡ true → list_all has_value s.rules ≡ true → is_wanted (codes "capture") s ≡ true → Asks s
-show_asks s is valued wanted name met named words none = rw is (show_some _ _ _ (wanted_value s (codes "capture") valued wanted words none))
+with_values : {A : Type 0} (value other : Option Text) (asks : Text → Text → A) → is_some value ≡ true → is_some other ≡ true → IsSome (option_and_then (λ v. option_map (asks v) other) value)
+with_values None other asks some more = absurd (true≢false (sym some))
+with_values (Some v) other asks some more = with_value other (asks v) more
 
-payload_some : (shape hex : Option Text) → is_some shape ≡ true → is_some hex ≡ true → IsSome (asked_by_payload shape hex)
-payload_some None hex some more = absurd (true≢false (sym some))
-payload_some (Some shape) None some more = absurd (true≢false (sym more))
-payload_some (Some shape) (Some hex) some more = refl
+-- a subcommand asks for something that needs the value of one argument, or those of two
+one_asks : (s : Shape) (id : Text) (asks : (Text → Option Text) → Text → Request) → ((value : Text → Option Text) → asked_by_subcommand s.name value ≡ option_map (asks value) (value id))
+    → list_all has_value s.rules ≡ true → is_wanted id s ≡ true → Asks s
+one_asks s id asks is valued wanted name met named words none =
+    let value : Text → Option Text = λ id. first_of id (rows_at s words).1 in
+    rw (is value) (with_value (value id) (asks value) (wanted_value s id valued wanted words none))
 
-payload_asks : (s : Shape) → bytes_eq s.name (codes "show") ≡ false → bytes_eq s.name (codes "payload") ≡ true → list_all has_value s.rules ≡ true
-    → is_wanted (codes "shape") s ≡ true → is_wanted (codes "hex") s ≡ true → Asks s
-payload_asks s other is valued shape hex name met named words none =
-    rw (other, is) (payload_some _ _ (wanted_value s (codes "shape") valued shape words none) (wanted_value s (codes "hex") valued hex words none))
-
-vectors_some : (file : Option Text) → is_some file ≡ true → IsSome (asked_by_vectors file)
-vectors_some None some = absurd (true≢false (sym some))
-vectors_some (Some file) some = refl
-
-vectors_asks : (s : Shape) → bytes_eq s.name (codes "show") ≡ false → bytes_eq s.name (codes "payload") ≡ false → bytes_eq s.name (codes "vectors") ≡ true
-    → list_all has_value s.rules ≡ true → is_wanted (codes "file") s ≡ true → Asks s
-vectors_asks s other another is valued wanted name met named words none = rw (other, another, is) (vectors_some _ (wanted_value s (codes "file") valued wanted words none))
-
-run_some : (setup schedule expect lines : Option Text) → is_some setup ≡ true → is_some schedule ≡ true → IsSome (asked_by_run setup schedule expect lines)
-run_some None schedule expect lines some more = absurd (true≢false (sym some))
-run_some (Some setup) None expect lines some more = absurd (true≢false (sym more))
-run_some (Some setup) (Some schedule) expect lines some more = refl
-
-run_asks : (s : Shape) → bytes_eq s.name (codes "show") ≡ false → bytes_eq s.name (codes "payload") ≡ false → bytes_eq s.name (codes "vectors") ≡ false
-    → bytes_eq s.name (codes "run") ≡ true → list_all has_value s.rules ≡ true → is_wanted (codes "setup") s ≡ true → is_wanted (codes "schedule") s ≡ true → Asks s
-run_asks s other another third is valued setup schedule name met named words none =
-    rw (other, another, third, is) (run_some _ _ _ _ (wanted_value s (codes "setup") valued setup words none) (wanted_value s (codes "schedule") valued schedule words none))
-
-recording_some : (file : Option Text) (options : RecordingRequest) → is_some file ≡ true → IsSome (asked_by_recording file options)
-recording_some None options some = absurd (true≢false (sym some))
-recording_some (Some file) options some = refl
-
-recording_asks : (s : Shape) → bytes_eq s.name (codes "show") ≡ false → bytes_eq s.name (codes "payload") ≡ false → bytes_eq s.name (codes "vectors") ≡ false
-    → bytes_eq s.name (codes "run") ≡ false → bytes_eq s.name (codes "recording") ≡ true → list_all has_value s.rules ≡ true → is_wanted (codes "file") s ≡ true → Asks s
-recording_asks s other another third fourth is valued file name met named words none =
-    rw (other, another, third, fourth, is) (recording_some _ _ (wanted_value s (codes "file") valued file words none))
-
-chart_some : (setup schedule : Option Text) → is_some setup ≡ true → is_some schedule ≡ true → IsSome (asked_by_chart setup schedule)
-chart_some None schedule some more = absurd (true≢false (sym some))
-chart_some (Some setup) None some more = absurd (true≢false (sym more))
-chart_some (Some setup) (Some schedule) some more = refl
-
-chart_asks : (s : Shape) → bytes_eq s.name (codes "show") ≡ false → bytes_eq s.name (codes "payload") ≡ false → bytes_eq s.name (codes "vectors") ≡ false
-    → bytes_eq s.name (codes "run") ≡ false → bytes_eq s.name (codes "recording") ≡ false → bytes_eq s.name (codes "chart") ≡ true
-    → list_all has_value s.rules ≡ true → is_wanted (codes "setup") s ≡ true → is_wanted (codes "schedule") s ≡ true → Asks s
-chart_asks s other another third fourth fifth is valued setup schedule name met named words none =
-    rw (other, another, third, fourth, fifth, is) (chart_some _ _ (wanted_value s (codes "setup") valued setup words none) (wanted_value s (codes "schedule") valued schedule words none))
-
-audit_some : (file : Option Text) (options : AuditRequest) → is_some file ≡ true → IsSome (asked_by_audit file options)
-audit_some None options some = absurd (true≢false (sym some))
-audit_some (Some file) options some = refl
-
-audit_asks : (s : Shape) → bytes_eq s.name (codes "show") ≡ false → bytes_eq s.name (codes "payload") ≡ false → bytes_eq s.name (codes "vectors") ≡ false
-    → bytes_eq s.name (codes "run") ≡ false → bytes_eq s.name (codes "recording") ≡ false → bytes_eq s.name (codes "chart") ≡ false → bytes_eq s.name (codes "audit") ≡ true
-    → list_all has_value s.rules ≡ true → is_wanted (codes "recording") s ≡ true → Asks s
-audit_asks s other another third fourth fifth sixth is valued file name met named words none =
-    rw (other, another, third, fourth, fifth, sixth, is) (audit_some _ _ (wanted_value s (codes "recording") valued file words none))
+two_asks : (s : Shape) (id other : Text) (asks : (Text → Option Text) → Text → Text → Request)
+    → ((value : Text → Option Text) → asked_by_subcommand s.name value ≡ option_and_then (λ v. option_map (asks value v) (value other)) (value id))
+    → list_all has_value s.rules ≡ true → is_wanted id s ≡ true → is_wanted other s ≡ true → Asks s
+two_asks s id other asks is valued first second name met named words none =
+    let value : Text → Option Text = λ id. first_of id (rows_at s words).1 in
+    rw (is value) (with_values (value id) (value other) (asks value) (wanted_value s id valued first words none) (wanted_value s other valued second words none))
 
 -- no other name is that of `help`
 help_asks : (s : Shape) → label_of s ≡ (codes "help", []) → Asks s
@@ -152,18 +110,18 @@ help_asks s is name met named words none = go (bytes_eq (codes "help") name) ref
 
 cli_asks : EachAsks (built cli).subs
 cli_asks = (
-  show_asks _ refl refl refl,
+  one_asks _ (codes "capture") _ (λ value. refl) refl refl,
   (
-    payload_asks _ refl refl refl refl refl,
+    two_asks _ (codes "shape") (codes "hex") _ (λ value. refl) refl refl refl,
     (
-      vectors_asks _ refl refl refl refl refl,
+      one_asks _ (codes "file") _ (λ value. refl) refl refl,
       (
-        run_asks _ refl refl refl refl refl refl refl,
+        two_asks _ (codes "setup") (codes "schedule") _ (λ value. refl) refl refl refl,
         (
-          recording_asks _ refl refl refl refl refl refl refl,
+          one_asks _ (codes "file") _ (λ value. refl) refl refl,
           (
-            chart_asks _ refl refl refl refl refl refl refl refl refl,
-            (audit_asks _ refl refl refl refl refl refl refl refl refl, (help_asks _ refl, tt)),
+            two_asks _ (codes "setup") (codes "schedule") _ (λ value. refl) refl refl refl,
+            (one_asks _ (codes "recording") _ (λ value. refl) refl refl, (help_asks _ refl, tt)),
           ),
         ),
       ),
@@ -249,76 +207,7 @@ entered_is m name rows e f = go (out-ArgMatches m).subcommand e f
         let r : rows ≡ rows_of (found_of s.matches) = cc in
         ap (λ (x : Text). Some (x, rows_of (found_of s.matches))) (sym a) ∙ ap (λ (y : List Row). Some (name, y)) (sym r)
 
--- what `show` asks for is what its matches ask for
-pub show_in : (m : ArgMatches) (name : Text) (f : Found) → subcommand_rows_of m ≡ Some (name, rows_of f) → bytes_eq name (codes "show") ≡ true
-    → asked_by_show (first_value f (codes "capture")) (first_value f (codes "service")) (first_value f (codes "types")) ≡ asked_by_entered (subcommand_rows_of m)
-show_in m name f is show =
-    let there : asked_by_subcommand name (rows_of f) ≡ asked_by_show (first_of (codes "capture") (rows_of f)) (first_of (codes "service") (rows_of f)) (first_of (codes "types") (rows_of f)) = rw show refl in
-    ap (λ (a : Option Text). asked_by_show a (first_value f (codes "service")) (first_value f (codes "types"))) (first_value-rows f (codes "capture"))
-    ∙ ap₂ (asked_by_show (first_of (codes "capture") (rows_of f))) (first_value-rows f (codes "service")) (first_value-rows f (codes "types"))
-    ∙ sym there ∙ sym (ap asked_by_entered is)
-
-pub payload_in : (m : ArgMatches) (name : Text) (f : Found) → subcommand_rows_of m ≡ Some (name, rows_of f) → bytes_eq name (codes "show") ≡ false → bytes_eq name (codes "payload") ≡ true
-    → asked_by_payload (first_value f (codes "shape")) (first_value f (codes "hex")) ≡ asked_by_entered (subcommand_rows_of m)
-payload_in m name f is other payload =
-    let there : asked_by_subcommand name (rows_of f) ≡ asked_by_payload (first_of (codes "shape") (rows_of f)) (first_of (codes "hex") (rows_of f)) = rw (other, payload) refl in
-    ap₂ asked_by_payload (first_value-rows f (codes "shape")) (first_value-rows f (codes "hex")) ∙ sym there ∙ sym (ap asked_by_entered is)
-
-pub vectors_in : (m : ArgMatches) (name : Text) (f : Found) → subcommand_rows_of m ≡ Some (name, rows_of f) → bytes_eq name (codes "show") ≡ false → bytes_eq name (codes "payload") ≡ false
-    → bytes_eq name (codes "vectors") ≡ true → asked_by_vectors (first_value f (codes "file")) ≡ asked_by_entered (subcommand_rows_of m)
-vectors_in m name f is other another vectors =
-    let there : asked_by_subcommand name (rows_of f) ≡ asked_by_vectors (first_of (codes "file") (rows_of f)) = rw (other, another, vectors) refl in
-    ap asked_by_vectors (first_value-rows f (codes "file")) ∙ sym there ∙ sym (ap asked_by_entered is)
-
-pub run_in : (m : ArgMatches) (name : Text) (f : Found) → subcommand_rows_of m ≡ Some (name, rows_of f) → bytes_eq name (codes "show") ≡ false → bytes_eq name (codes "payload") ≡ false
-    → bytes_eq name (codes "vectors") ≡ false → bytes_eq name (codes "run") ≡ true
-    → asked_by_run (first_value f (codes "setup")) (first_value f (codes "schedule")) (first_value f (codes "expect")) (first_value f (codes "lines")) ≡ asked_by_entered (subcommand_rows_of m)
-run_in m name f is other another third run =
-    let there : asked_by_subcommand name (rows_of f)
-    ≡ asked_by_run (first_of (codes "setup") (rows_of f)) (first_of (codes "schedule") (rows_of f)) (first_of (codes "expect") (rows_of f)) (first_of (codes "lines") (rows_of f))
-    = rw (other, another, third, run) refl in
-    ap₂ (λ (a b : Option Text). asked_by_run a b (first_value f (codes "expect")) (first_value f (codes "lines"))) (first_value-rows f (codes "setup")) (first_value-rows f (codes "schedule"))
-    ∙ ap₂ (λ (a b : Option Text). asked_by_run (first_of (codes "setup") (rows_of f)) (first_of (codes "schedule") (rows_of f)) a b) (first_value-rows f (codes "expect")) (first_value-rows f (codes "lines"))
-    ∙ sym there ∙ sym (ap asked_by_entered is)
-
--- the options that were found are those of the rows
-options_same : (f : Found) → options_found f ≡ options_in (rows_of f)
-options_same f =
-    let v : Text → Option Text = first_value f in
-    let o : Text → Option Text = λ id. first_of id (rows_of f) in
-    ap₂ (λ (a b : Option Text). recording_options_of a b (v (codes "service")) (v (codes "types")) (v (codes "whole")) (v (codes "whole-limit")) (v (codes "whole-slots")) (v (codes "whole-timeout")))
-    (first_value-rows f (codes "ports")) (first_value-rows f (codes "endpoints"))
-    ∙ ap₂ (λ (a b : Option Text). recording_options_of (o (codes "ports")) (o (codes "endpoints")) a b (v (codes "whole")) (v (codes "whole-limit")) (v (codes "whole-slots")) (v (codes "whole-timeout")))
-    (first_value-rows f (codes "service")) (first_value-rows f (codes "types"))
-    ∙ ap₂ (λ (a b : Option Text). recording_options_of (o (codes "ports")) (o (codes "endpoints")) (o (codes "service")) (o (codes "types")) a b (v (codes "whole-slots")) (v (codes "whole-timeout")))
-    (first_value-rows f (codes "whole")) (first_value-rows f (codes "whole-limit"))
-    ∙ ap₂ (λ (a b : Option Text). recording_options_of (o (codes "ports")) (o (codes "endpoints")) (o (codes "service")) (o (codes "types")) (o (codes "whole")) (o (codes "whole-limit")) a b)
-    (first_value-rows f (codes "whole-slots")) (first_value-rows f (codes "whole-timeout"))
-
-pub recording_in : (m : ArgMatches) (name : Text) (f : Found) → subcommand_rows_of m ≡ Some (name, rows_of f) → bytes_eq name (codes "show") ≡ false → bytes_eq name (codes "payload") ≡ false
-    → bytes_eq name (codes "vectors") ≡ false → bytes_eq name (codes "run") ≡ false → bytes_eq name (codes "recording") ≡ true
-    → asked_by_recording (first_value f (codes "file")) (options_found f) ≡ asked_by_entered (subcommand_rows_of m)
-recording_in m name f is other another third fourth recording =
-    let there : asked_by_subcommand name (rows_of f) ≡ asked_by_recording (first_of (codes "file") (rows_of f)) (options_in (rows_of f)) = rw (other, another, third, fourth, recording) refl in
-    ap₂ asked_by_recording (first_value-rows f (codes "file")) (options_same f) ∙ sym there ∙ sym (ap asked_by_entered is)
-
-pub chart_in : (m : ArgMatches) (name : Text) (f : Found) → subcommand_rows_of m ≡ Some (name, rows_of f) → bytes_eq name (codes "show") ≡ false → bytes_eq name (codes "payload") ≡ false
-    → bytes_eq name (codes "vectors") ≡ false → bytes_eq name (codes "run") ≡ false → bytes_eq name (codes "recording") ≡ false → bytes_eq name (codes "chart") ≡ true
-    → asked_by_chart (first_value f (codes "setup")) (first_value f (codes "schedule")) ≡ asked_by_entered (subcommand_rows_of m)
-chart_in m name f is other another third fourth fifth chart =
-    let there : asked_by_subcommand name (rows_of f) ≡ asked_by_chart (first_of (codes "setup") (rows_of f)) (first_of (codes "schedule") (rows_of f))
-    = rw (other, another, third, fourth, fifth, chart) refl in
-    ap₂ asked_by_chart (first_value-rows f (codes "setup")) (first_value-rows f (codes "schedule")) ∙ sym there ∙ sym (ap asked_by_entered is)
-
-audit_options_same : (f : Found) → audit_options_found f ≡ audit_options_in (rows_of f)
-audit_options_same f =
-    ap₂ (λ (a b : Option Text). audit_options_of a b (first_value f (codes "settle-ms"))) (first_value-rows f (codes "ports")) (first_value-rows f (codes "answer-ms"))
-    ∙ ap (λ (a : Option Text). audit_options_of (first_of (codes "ports") (rows_of f)) (first_of (codes "answer-ms") (rows_of f)) a) (first_value-rows f (codes "settle-ms"))
-
-pub audit_in : (m : ArgMatches) (name : Text) (f : Found) → subcommand_rows_of m ≡ Some (name, rows_of f) → bytes_eq name (codes "show") ≡ false → bytes_eq name (codes "payload") ≡ false
-    → bytes_eq name (codes "vectors") ≡ false → bytes_eq name (codes "run") ≡ false → bytes_eq name (codes "recording") ≡ false → bytes_eq name (codes "chart") ≡ false → bytes_eq name (codes "audit") ≡ true
-    → asked_by_audit (first_value f (codes "recording")) (audit_options_found f) ≡ asked_by_entered (subcommand_rows_of m)
-audit_in m name f is other another third fourth fifth sixth audit =
-    let there : asked_by_subcommand name (rows_of f) ≡ asked_by_audit (first_of (codes "recording") (rows_of f)) (audit_options_in (rows_of f))
-    = rw (other, another, third, fourth, fifth, sixth, audit) refl in
-    ap₂ asked_by_audit (first_value-rows f (codes "recording")) (audit_options_same f) ∙ sym there ∙ sym (ap asked_by_entered is)
+-- what a subcommand's matches ask for is what was entered
+pub entered_asks : (m : ArgMatches) (name : Text) (f : Found) → subcommand_rows_of m ≡ Some (name, rows_of f)
+    → asked_by_subcommand name (first_value f) ≡ asked_by_entered (subcommand_rows_of m)
+entered_asks m name f is = ap (asked_by_subcommand name) (fun_ext (first_value-rows f)) ∙ sym (ap asked_by_entered is)

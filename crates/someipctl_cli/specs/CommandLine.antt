@@ -1,11 +1,10 @@
 -- The command line, and what its words ask for.
-use Rattle.std.specs.Prelude.{◌==◌, ◌≡◌, ◌≢◌, ◌⊎◌, Bool, true, false, List, [], ◌∷◌, codes, Option, Some, None, option_map, if◌then◌else◌}
+use Rattle.std.specs.Prelude.{◌==◌, ◌≡◌, ◌≢◌, ◌⊎◌, Bool, true, false, List, [], ◌∷◌, codes, Option, Some, None, option_map, option_and_then, if◌then◌else◌}
 use Rattle.std.specs.Str.{bytes_eq}
 use Rattle.std.specs.Borrow.{Bor}
-use Rattle.clap.specs.Words.{App, IsAmong, Row, Rule, Shape, Text, fault_of, first_of, first_value, kind_of}
+use Rattle.clap.specs.Words.{App, IsAmong, Row, Rule, Shape, Text, fault_of, first_of, kind_of}
 use Rattle.clap.specs.Words.{new_app, new_rule, subcommand_of, with_rule, with_subcommand}
 use Rattle.clap.specs.Simple.{on_top}
-use Rattle.clap.specs.declared.parser.matches.Found.{Found}
 use Rattle.clap.specs.declared.Error.{Error}
 use Rattle.clap.specs.declared.error.ErrorKind.{ErrorKind}
 use Rattle.clap.specs.declared.error.ErrorKind.TheVariants as kind
@@ -151,32 +150,28 @@ asked_by_command (Recording file options) = recording_request file.now (asked_by
 asked_by_command (Chart setup schedule) = chart_request setup.now schedule.now
 asked_by_command (Audit file options) = audit_request file.now (asked_by_audit_options options)
 
--- what `show` asks for, by its argument and options
-abbrev pub asked_by_show : Option Text → Option Text → Option Text → Option Request
-asked_by_show None service types = None
-asked_by_show (Some capture) service types = Some (show_request capture service types)
+-- what `show` asks for, by the values of its argument and options
+abbrev pub asked_by_show : (Text → Option Text) → Option Request
+asked_by_show value = option_map (λ capture. show_request capture (value (codes "service")) (value (codes "types"))) (value (codes "capture"))
 
--- what `payload` asks for, by its arguments
-abbrev pub asked_by_payload : Option Text → Option Text → Option Request
-asked_by_payload None hex = None
-asked_by_payload (Some shape) None = None
-asked_by_payload (Some shape) (Some hex) = Some (payload_request shape hex)
+-- what `payload` asks for
+abbrev pub asked_by_payload : (Text → Option Text) → Option Request
+asked_by_payload value = option_and_then (λ shape. option_map (payload_request shape) (value (codes "hex"))) (value (codes "shape"))
 
--- what `vectors` asks for, by its argument
-abbrev pub asked_by_vectors : Option Text → Option Request
-asked_by_vectors None = None
-asked_by_vectors (Some file) = Some (vectors_request file)
+-- what `vectors` asks for
+abbrev pub asked_by_vectors : (Text → Option Text) → Option Request
+asked_by_vectors value = option_map vectors_request (value (codes "file"))
 
 -- an option without a value is on where it was given: then its value is that of true
 abbrev pub is_on : Option Text → Bool
 is_on None = false
 is_on (Some value) = bytes_eq value (codes "true")
 
--- what `run` asks for, by its arguments and options
-abbrev pub asked_by_run : Option Text → Option Text → Option Text → Option Text → Option Request
-asked_by_run None schedule expect lines = None
-asked_by_run (Some setup) None expect lines = None
-asked_by_run (Some setup) (Some schedule) expect lines = Some (run_request setup schedule expect (is_on lines))
+-- what `run` asks for
+abbrev pub asked_by_run : (Text → Option Text) → Option Request
+asked_by_run value =
+    option_and_then (λ setup. option_map (λ schedule. run_request setup schedule (value (codes "expect")) (is_on (value (codes "lines")))) (value (codes "schedule")))
+    (value (codes "setup"))
 
 -- the options of `recording`, by what each matched
 abbrev pub recording_options_of : (ports endpoints service types whole limit slots timeout : Option Text) → RecordingRequest
@@ -191,61 +186,44 @@ recording_options_of ports endpoints service types whole limit slots timeout = r
   timeout = timeout;
 }
 
--- what `recording` asks for, by its argument and options
-abbrev pub asked_by_recording : Option Text → RecordingRequest → Option Request
-asked_by_recording None options = None
-asked_by_recording (Some file) options = Some (recording_request file options)
+abbrev pub recording_options_by : (Text → Option Text) → RecordingRequest
+recording_options_by value =
+    recording_options_of (value (codes "ports")) (value (codes "endpoints")) (value (codes "service")) (value (codes "types"))
+    (value (codes "whole")) (value (codes "whole-limit")) (value (codes "whole-slots")) (value (codes "whole-timeout"))
 
--- its options among what was matched
-abbrev pub options_found : Found → RecordingRequest
-options_found f =
-    recording_options_of (first_value f (codes "ports")) (first_value f (codes "endpoints")) (first_value f (codes "service")) (first_value f (codes "types"))
-    (first_value f (codes "whole")) (first_value f (codes "whole-limit")) (first_value f (codes "whole-slots")) (first_value f (codes "whole-timeout"))
+-- what `recording` asks for
+abbrev pub asked_by_recording : (Text → Option Text) → Option Request
+asked_by_recording value = option_map (λ file. recording_request file (recording_options_by value)) (value (codes "file"))
 
-abbrev pub options_in : List Row → RecordingRequest
-options_in rows =
-    recording_options_of (first_of (codes "ports") rows) (first_of (codes "endpoints") rows) (first_of (codes "service") rows) (first_of (codes "types") rows)
-    (first_of (codes "whole") rows) (first_of (codes "whole-limit") rows) (first_of (codes "whole-slots") rows) (first_of (codes "whole-timeout") rows)
+-- what `chart` asks for
+abbrev pub asked_by_chart : (Text → Option Text) → Option Request
+asked_by_chart value = option_and_then (λ setup. option_map (chart_request setup) (value (codes "schedule"))) (value (codes "setup"))
 
--- what `chart` asks for, by its arguments
-abbrev pub asked_by_chart : Option Text → Option Text → Option Request
-asked_by_chart None schedule = None
-asked_by_chart (Some setup) None = None
-asked_by_chart (Some setup) (Some schedule) = Some (chart_request setup schedule)
-
--- what `audit` asks for, by its argument and options
-abbrev pub asked_by_audit : Option Text → AuditRequest → Option Request
-asked_by_audit None options = None
-asked_by_audit (Some file) options = Some (audit_request file options)
-
--- its options, by what each matched
+-- the options of `audit`, by what each matched
 abbrev pub audit_options_of : (ports answer_ms settle_ms : Option Text) → AuditRequest
 audit_options_of ports answer_ms settle_ms = record { ports = ports; answer_ms = answer_ms; settle_ms = settle_ms }
 
-abbrev pub audit_options_found : Found → AuditRequest
-audit_options_found f = audit_options_of (first_value f (codes "ports")) (first_value f (codes "answer-ms")) (first_value f (codes "settle-ms"))
+abbrev pub audit_options_by : (Text → Option Text) → AuditRequest
+audit_options_by value = audit_options_of (value (codes "ports")) (value (codes "answer-ms")) (value (codes "settle-ms"))
 
-abbrev pub audit_options_in : List Row → AuditRequest
-audit_options_in rows = audit_options_of (first_of (codes "ports") rows) (first_of (codes "answer-ms") rows) (first_of (codes "settle-ms") rows)
+-- what `audit` asks for
+abbrev pub asked_by_audit : (Text → Option Text) → Option Request
+asked_by_audit value = option_map (λ file. audit_request file (audit_options_by value)) (value (codes "recording"))
 
--- what a subcommand asks for, by its name and what its arguments matched
-abbrev pub asked_by_subcommand : Text → List Row → Option Request
-asked_by_subcommand name rows =
-    if bytes_eq name (codes "show") then asked_by_show (first_of (codes "capture") rows) (first_of (codes "service") rows) (first_of (codes "types") rows)
-    else (if bytes_eq name (codes "payload")
-    then asked_by_payload (first_of (codes "shape") rows) (first_of (codes "hex") rows)
-    else (if bytes_eq name (codes "vectors") then asked_by_vectors (first_of (codes "file") rows)
-    else (if bytes_eq name (codes "run")
-    then asked_by_run (first_of (codes "setup") rows) (first_of (codes "schedule") rows) (first_of (codes "expect") rows) (first_of (codes "lines") rows)
-    else (if bytes_eq name (codes "recording")
-    then asked_by_recording (first_of (codes "file") rows) (options_in rows)
-    else (if bytes_eq name (codes "chart") then asked_by_chart (first_of (codes "setup") rows) (first_of (codes "schedule") rows)
-    else (if bytes_eq name (codes "audit") then asked_by_audit (first_of (codes "recording") rows) (audit_options_in rows) else None))))))
+-- what a subcommand asks for, by its name and the values of its arguments and options
+abbrev pub asked_by_subcommand : Text → (Text → Option Text) → Option Request
+asked_by_subcommand name value =
+    if bytes_eq name (codes "show") then asked_by_show value
+    else (if bytes_eq name (codes "payload") then asked_by_payload value
+    else (if bytes_eq name (codes "vectors") then asked_by_vectors value
+    else (if bytes_eq name (codes "run") then asked_by_run value
+    else (if bytes_eq name (codes "recording") then asked_by_recording value
+    else (if bytes_eq name (codes "chart") then asked_by_chart value
+    else (if bytes_eq name (codes "audit") then asked_by_audit value else None))))))
 
 -- what the subcommand that was entered asks for, where one was
 abbrev pub asked_by_entered : Option (Text × List Row) → Option Request
-asked_by_entered None = None
-asked_by_entered (Some p) = asked_by_subcommand p.0 p.1
+asked_by_entered entered = option_and_then (λ p. asked_by_subcommand p.0 (λ id. first_of id p.1)) entered
 
 -- what the words ask for, by what `clap` matches from them
 abbrev pub requested : List Text → Option Request

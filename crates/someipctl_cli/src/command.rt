@@ -3,11 +3,11 @@ ghost use Rattle.std.specs.Prelude.{◌≡◌, IfErr, IfOk, OnOk, Some, codes, m
 ghost use Rattle.clap.specs.Words.{first_value, found_of, subcommand_rows_of};
 ghost use Rattle.someipctl_cli.specs.declared.command.LineError.TheVariants.{OutOfMemory};
 ghost use Rattle.someipctl_cli.specs.CommandLine.{IsLineErrorOf, IsTaken, RefusesWords};
-ghost use Rattle.someipctl_cli.specs.CommandLine.{asked_by_audit, asked_by_audit_options, audit_options_found};
-ghost use Rattle.someipctl_cli.specs.CommandLine.{asked_by_chart, asked_by_command, asked_by_entered};
+ghost use Rattle.someipctl_cli.specs.CommandLine.{asked_by_audit, asked_by_audit_options, asked_by_chart};
+ghost use Rattle.someipctl_cli.specs.CommandLine.{asked_by_command, asked_by_entered, asked_by_options};
 ghost use Rattle.someipctl_cli.specs.CommandLine.{asked_by_payload, asked_by_recording, asked_by_run};
-ghost use Rattle.someipctl_cli.specs.CommandLine.{asked_by_show, asked_by_vectors};
-ghost use Rattle.someipctl_cli.specs.CommandLine.{asked_by_options, is_on, options_found, requested};
+ghost use Rattle.someipctl_cli.specs.CommandLine.{asked_by_show, asked_by_subcommand, asked_by_vectors};
+ghost use Rattle.someipctl_cli.specs.CommandLine.{audit_options_by, is_on, recording_options_by, requested};
 
 use crate::grammar::definition;
 use clap::ArgMatches;
@@ -171,6 +171,14 @@ fn matched<'w>(matches: &ArgMatches<'w>) -> Option<Command<'w>>
     ensures { option_map asked_by_command result ≡ asked_by_entered (subcommand_rows_of matches.now) }
 {
     let (name, rest) = matches.subcommand()?;
+    matched_under(name, rest)
+}
+
+/// The same of the matches under a subcommand's name.
+fn matched_under<'w>(name: &str, rest: &ArgMatches<'w>) -> Option<Command<'w>>
+    ensures { option_map asked_by_command result
+        ≡ asked_by_subcommand name.now (first_value (found_of rest.now)) }
+{
     match name {
         "show" => show_matched(rest),
         "payload" => payload_matched(rest),
@@ -184,10 +192,7 @@ fn matched<'w>(matches: &ArgMatches<'w>) -> Option<Command<'w>>
 }
 
 fn show_matched<'w>(matches: &ArgMatches<'w>) -> Option<Command<'w>>
-    ensures { option_map asked_by_command result
-        ≡ asked_by_show (first_value (found_of matches.now) (codes "capture"))
-        (first_value (found_of matches.now) (codes "service"))
-        (first_value (found_of matches.now) (codes "types")) }
+    ensures { option_map asked_by_command result ≡ asked_by_show (first_value (found_of matches.now)) }
 {
     let capture = matches.get_str("capture")?;
     Some(Command::Show {
@@ -198,9 +203,7 @@ fn show_matched<'w>(matches: &ArgMatches<'w>) -> Option<Command<'w>>
 }
 
 fn payload_matched<'w>(matches: &ArgMatches<'w>) -> Option<Command<'w>>
-    ensures { option_map asked_by_command result
-        ≡ asked_by_payload (first_value (found_of matches.now) (codes "shape"))
-        (first_value (found_of matches.now) (codes "hex")) }
+    ensures { option_map asked_by_command result ≡ asked_by_payload (first_value (found_of matches.now)) }
 {
     let shape = matches.get_str("shape")?;
     let hex = matches.get_str("hex")?;
@@ -208,19 +211,14 @@ fn payload_matched<'w>(matches: &ArgMatches<'w>) -> Option<Command<'w>>
 }
 
 fn vectors_matched<'w>(matches: &ArgMatches<'w>) -> Option<Command<'w>>
-    ensures { option_map asked_by_command result
-        ≡ asked_by_vectors (first_value (found_of matches.now) (codes "file")) }
+    ensures { option_map asked_by_command result ≡ asked_by_vectors (first_value (found_of matches.now)) }
 {
     let file = matches.get_str("file")?;
     Some(Command::Vectors { file })
 }
 
 fn run_matched<'w>(matches: &ArgMatches<'w>) -> Option<Command<'w>>
-    ensures { option_map asked_by_command result
-        ≡ asked_by_run (first_value (found_of matches.now) (codes "setup"))
-        (first_value (found_of matches.now) (codes "schedule"))
-        (first_value (found_of matches.now) (codes "expect"))
-        (first_value (found_of matches.now) (codes "lines")) }
+    ensures { option_map asked_by_command result ≡ asked_by_run (first_value (found_of matches.now)) }
 {
     let setup = matches.get_str("setup")?;
     let schedule = matches.get_str("schedule")?;
@@ -233,9 +231,7 @@ fn run_matched<'w>(matches: &ArgMatches<'w>) -> Option<Command<'w>>
 }
 
 fn recording_matched<'w>(matches: &ArgMatches<'w>) -> Option<Command<'w>>
-    ensures { option_map asked_by_command result
-        ≡ asked_by_recording (first_value (found_of matches.now) (codes "file"))
-        (options_found (found_of matches.now)) }
+    ensures { option_map asked_by_command result ≡ asked_by_recording (first_value (found_of matches.now)) }
 {
     let file = matches.get_str("file")?;
     Some(Command::Recording {
@@ -245,7 +241,7 @@ fn recording_matched<'w>(matches: &ArgMatches<'w>) -> Option<Command<'w>>
 }
 
 fn options_matched<'w>(matches: &ArgMatches<'w>) -> RecordingOptions<'w>
-    ensures { asked_by_options result ≡ options_found (found_of matches.now) }
+    ensures { asked_by_options result ≡ recording_options_by (first_value (found_of matches.now)) }
 {
     RecordingOptions {
         ports: matches.get_str("ports"),
@@ -260,9 +256,7 @@ fn options_matched<'w>(matches: &ArgMatches<'w>) -> RecordingOptions<'w>
 }
 
 fn chart_matched<'w>(matches: &ArgMatches<'w>) -> Option<Command<'w>>
-    ensures { option_map asked_by_command result
-        ≡ asked_by_chart (first_value (found_of matches.now) (codes "setup"))
-        (first_value (found_of matches.now) (codes "schedule")) }
+    ensures { option_map asked_by_command result ≡ asked_by_chart (first_value (found_of matches.now)) }
 {
     let setup = matches.get_str("setup")?;
     let schedule = matches.get_str("schedule")?;
@@ -270,9 +264,7 @@ fn chart_matched<'w>(matches: &ArgMatches<'w>) -> Option<Command<'w>>
 }
 
 fn audit_matched<'w>(matches: &ArgMatches<'w>) -> Option<Command<'w>>
-    ensures { option_map asked_by_command result
-        ≡ asked_by_audit (first_value (found_of matches.now) (codes "recording"))
-        (audit_options_found (found_of matches.now)) }
+    ensures { option_map asked_by_command result ≡ asked_by_audit (first_value (found_of matches.now)) }
 {
     let file = matches.get_str("recording")?;
     Some(Command::Audit {
@@ -282,7 +274,7 @@ fn audit_matched<'w>(matches: &ArgMatches<'w>) -> Option<Command<'w>>
 }
 
 fn audit_options_matched<'w>(matches: &ArgMatches<'w>) -> AuditOptions<'w>
-    ensures { asked_by_audit_options result ≡ audit_options_found (found_of matches.now) }
+    ensures { asked_by_audit_options result ≡ audit_options_by (first_value (found_of matches.now)) }
 {
     AuditOptions {
         ports: matches.get_str("ports"),

@@ -1,62 +1,60 @@
 //! Why the program did not do its work.
 //!
 //! A text for standard error stands once, at the lowest error that says it: `line L: bad hex` at
-//! `CaptureError`, `line L: bad step` at `ScheduleError`, `bad shape at P` at `ShapeTextError`. An error of
-//! a command, and the `Failure` of the program, prints that one. `out of memory` alone stands at each error
-//! that can say it.
+//! `BadCaptureLine`, `line L: bad step` at `ScheduleError`, `bad shape at P` at `ShapeTextError`. The
+//! `Failure` of the program prints that one.
 ghost use Rattle.std.specs.Prelude.{◌≡◌};
-ghost use Rattle.someipctl_cli.specs.Failures.{status_of_failure, failure_of_show, failure_of_payload};
-ghost use Rattle.someipctl_cli.specs.Failures.{failure_of_expected, failure_of_run, failure_of_setup};
-ghost use Rattle.someipctl_cli.specs.Failures.{failure_of_ports, failure_of_recording, failure_of_vectors};
-ghost use Rattle.someipctl_cli.specs.Failures.{failure_of_services, failure_of_types};
+ghost use Rattle.someipctl_cli.specs.Failures.{failure_of, failure_of_ports, failure_of_services};
+ghost use Rattle.someipctl_cli.specs.Failures.{status_of_failure};
 
 use recording::RecordingError;
-use someip_world::{SetupError, StepFault};
-use someipctl_io::ReadFault;
+use someipctl_io::{Fault, ReadFault};
+use someipctl_recordings::LimitsError;
 use someipctl_recordings::audit::TimesError;
 use someipctl_recordings::ports::PortsError;
-use someipctl_recordings::{LimitsError, RecordingFault};
-use someipctl_run::{ExpectedFault, RunFault, SetupFault, SetupRefusal};
+use someipctl_run::{BadTraceLine, ScheduleRefusal, SetupRefusal};
+use someipctl_show::BadCaptureLine;
 use someipctl_show::payload::PayloadRefusal;
 use someipctl_show::services::ServicesError;
-use someipctl_show::show::ShowError;
-use someipctl_show::types::{TypesError, TypesFault};
-use someipctl_show::vectors::VectorsError;
+use someipctl_show::types::TypesRefusal;
+use someipctl_show::vectors::BadVectorLine;
 use thiserror::Error;
+
+/// Why an input is refused, for each command.
+#[derive(Debug, Drop, Error)]
+pub enum Refusal {
+    /// That of a capture.
+    #[error(transparent)]
+    Capture(BadCaptureLine),
+    /// That of a file of vectors.
+    #[error(transparent)]
+    Vectors(BadVectorLine),
+    /// That of a setup.
+    #[error(transparent)]
+    Setup(SetupRefusal),
+    /// That of an expected trace.
+    #[error(transparent)]
+    Trace(BadTraceLine),
+    /// That of a schedule.
+    #[error(transparent)]
+    Schedule(ScheduleRefusal),
+    /// That of the arguments of `payload`.
+    #[error(transparent)]
+    Payload(PayloadRefusal),
+    /// A recording has a fault. What comes before it was shown.
+    #[error("recording: {0}")]
+    Recording(RecordingError),
+    /// That of a types file.
+    #[error(transparent)]
+    Types(TypesRefusal),
+}
 
 /// Why the program did not do its work. Printed, it is the text for standard error.
 #[derive(Debug, Drop, Error)]
 pub enum Failure<'p> {
-    /// The line of this number of a capture, counted from 1, is no hex.
-    #[error("{}", ShowError::BadHex(*.0))]
-    BadHex(usize),
-    /// The line of this number of a file of vectors, counted from 1, is bad.
-    #[error("{}", VectorsError::BadVector(*.0))]
-    BadVector(usize),
-    /// The line of this number of a schedule, counted from 1, spells no step.
-    #[error("{}", RunFault::BadLine(*.0))]
-    BadScheduleLine(usize),
-    /// The text of a setup is none.
-    #[error("{}", SetupRefusal(.0))]
-    BadSetup(SetupError),
-    /// The line of this number of an expected trace, counted from 1, can be none of a trace.
-    #[error("{}", ExpectedFault::BadLine(*.0))]
-    BadExpectedLine(usize),
-    /// The step of this index of a schedule, counted from 1, can't happen.
-    #[error("{}", RunFault::BadStep(*.0, *.1))]
-    BadStep(usize, StepFault),
-    /// The text of a shape is none from this byte on.
-    #[error("{}", PayloadRefusal::BadShape(*.0))]
-    BadShape(usize),
-    /// A payload is no hex.
-    #[error("{}", PayloadRefusal::BadHex)]
-    BadPayloadHex,
-    /// A recording has a fault. What comes before it was shown.
-    #[error("recording: {0}")]
-    BadRecording(RecordingError),
-    /// The text of a types file is none.
-    #[error("types: {0}")]
-    BadTypes(TypesError),
+    /// An input is refused.
+    #[error(transparent)]
+    Refused(Refusal),
     /// This text names no ports, of a command that is used so.
     #[error("error: invalid value '{0}' for '--ports <PORTS>': ports are numbers from 1 to 65535 with commas between them\n\nUsage: someipctl {1}")]
     BadPorts(&'p str, &'static str),
@@ -79,7 +77,7 @@ pub enum Failure<'p> {
     #[error("error: a word is no UTF-8\n\nUsage: someipctl <COMMAND>")]
     NotText,
     /// Memory ran out.
-    #[error("out of memory")]
+    #[error("{}", ReadFault::OutOfMemory)]
     OutOfMemory,
     /// The file at this path could not be read.
     #[error("{} {}", ReadFault::CannotRead, .0)]
@@ -96,16 +94,7 @@ impl<'p> Failure<'p> {
         ensures { result ≡ status_of_failure self.now }
     {
         match self {
-            Failure::BadHex(_)
-            | Failure::BadVector(_)
-            | Failure::BadScheduleLine(_)
-            | Failure::BadSetup(_)
-            | Failure::BadExpectedLine(_)
-            | Failure::BadStep(_, _)
-            | Failure::BadShape(_)
-            | Failure::BadPayloadHex
-            | Failure::BadRecording(_)
-            | Failure::BadTypes(_) => 1,
+            Failure::Refused(_) => 1,
             Failure::Usage(_)
             | Failure::NotText
             | Failure::BadPorts(_, _)
@@ -118,85 +107,15 @@ impl<'p> Failure<'p> {
         }
     }
 
-    /// Why the capture at a path was not shown.
-    pub fn of_show(error: ShowError, path: &'p str) -> Failure<'p>
-        ensures { result ≡ failure_of_show error path.entry }
-    {
-        match error {
-            ShowError::BadHex(line) => Failure::BadHex(line),
-            ShowError::CannotRead => Failure::CannotRead(path),
-            ShowError::CannotWrite => Failure::CannotWrite,
-            ShowError::OutOfMemory => Failure::OutOfMemory,
-        }
-    }
-
-    /// Why the vectors of the file at a path were not judged.
-    pub fn of_vectors(error: VectorsError, path: &'p str) -> Failure<'p>
-        ensures { result ≡ failure_of_vectors error path.entry }
-    {
-        match error {
-            VectorsError::BadVector(line) => Failure::BadVector(line),
-            VectorsError::CannotRead => Failure::CannotRead(path),
-            VectorsError::CannotWrite => Failure::CannotWrite,
-            VectorsError::OutOfMemory => Failure::OutOfMemory,
-        }
-    }
-
-    /// Why the setup at a path was not read.
-    pub fn of_setup(fault: SetupFault, path: &'p str) -> Failure<'p>
-        ensures { result ≡ failure_of_setup fault path.entry }
+    /// Why a command failed that reads the file at a path.
+    pub fn of(fault: Fault<Refusal>, path: &'p str) -> Failure<'p>
+        ensures { result ≡ failure_of fault path.entry }
     {
         match fault {
-            SetupFault::Refused(error) => Failure::BadSetup(error),
-            SetupFault::CannotRead => Failure::CannotRead(path),
-            SetupFault::OutOfMemory => Failure::OutOfMemory,
-        }
-    }
-
-    /// Why the expected trace at a path was not read.
-    pub fn of_expected(fault: ExpectedFault, path: &'p str) -> Failure<'p>
-        ensures { result ≡ failure_of_expected fault path.entry }
-    {
-        match fault {
-            ExpectedFault::BadLine(line) => Failure::BadExpectedLine(line),
-            ExpectedFault::CannotRead => Failure::CannotRead(path),
-            ExpectedFault::OutOfMemory => Failure::OutOfMemory,
-        }
-    }
-
-    /// Why the schedule at a path was not run.
-    pub fn of_run(fault: RunFault, path: &'p str) -> Failure<'p>
-        ensures { result ≡ failure_of_run fault path.entry }
-    {
-        match fault {
-            RunFault::BadLine(line) => Failure::BadScheduleLine(line),
-            RunFault::BadStep(index, fault) => Failure::BadStep(index, fault),
-            RunFault::CannotRead => Failure::CannotRead(path),
-            RunFault::CannotWrite => Failure::CannotWrite,
-            RunFault::OutOfMemory => Failure::OutOfMemory,
-        }
-    }
-
-    /// Why a payload was not read.
-    pub fn of_payload(refusal: PayloadRefusal) -> Failure<'static>
-        ensures { result ≡ failure_of_payload refusal }
-    {
-        match refusal {
-            PayloadRefusal::BadShape(place) => Failure::BadShape(place),
-            PayloadRefusal::BadHex => Failure::BadPayloadHex,
-            PayloadRefusal::CannotWrite => Failure::CannotWrite,
-            PayloadRefusal::OutOfMemory => Failure::OutOfMemory,
-        }
-    }
-
-    /// Why the recording at a path was not shown.
-    pub fn of_recording(fault: RecordingFault, path: &'p str) -> Failure<'p>
-        ensures { result ≡ failure_of_recording fault path.entry }
-    {
-        match fault {
-            RecordingFault::CannotRead => Failure::CannotRead(path),
-            RecordingFault::CannotWrite => Failure::CannotWrite,
-            RecordingFault::OutOfMemory => Failure::OutOfMemory,
+            Fault::Refused(refusal) => Failure::Refused(refusal),
+            Fault::CannotRead => Failure::CannotRead(path),
+            Fault::CannotWrite => Failure::CannotWrite,
+            Fault::OutOfMemory => Failure::OutOfMemory,
         }
     }
 
@@ -217,17 +136,6 @@ impl<'p> Failure<'p> {
         match error {
             ServicesError::BadServices => Failure::BadServices(text, usage),
             ServicesError::OutOfMemory => Failure::OutOfMemory,
-        }
-    }
-
-    /// Why the types file at a path was not read.
-    pub fn of_types(fault: TypesFault, path: &'p str) -> Failure<'p>
-        ensures { result ≡ failure_of_types fault path.entry }
-    {
-        match fault {
-            TypesFault::Refused(error) => Failure::BadTypes(error),
-            TypesFault::CannotRead => Failure::CannotRead(path),
-            TypesFault::OutOfMemory => Failure::OutOfMemory,
         }
     }
 }

@@ -24,6 +24,6 @@ pub mod laws;
 mod program;
 
 pub use command::{AuditOptions, Command, LineError, RecordingOptions, command_of};
-pub use failure::Failure;
+pub use failure::{Failure, Refusal};
 pub use help::answer_error;
 pub use program::{answer, report, run, words_of};

@@ -5,7 +5,7 @@ ghost use Rattle.someipctl_run.specs.declared.form.TraceForm.TheVariants.{Plain,
 ghost use Rattle.someipctl_cli.specs.Failures.{status_of_failure};
 
 use crate::command::{AuditOptions, Command, RecordingOptions, command_of};
-use crate::failure::Failure;
+use crate::failure::{Failure, Refusal};
 use crate::help::answer_error;
 use someip_tp::IntervalPool;
 use someip_world::Setup;
@@ -103,7 +103,9 @@ fn run_command<'w, R: Files + Print + Eprint + Input + AllocGlobal>(
             types,
         } => show_file(rt, capture, service, types),
         Command::Payload { shape, hex } => {
-            payload(rt.alloc(), shape, hex, &mut io::writer(rt)).map_err(Failure::of_payload)
+            let told = payload(rt.alloc(), shape, hex, &mut io::writer(rt));
+            // No file is read, so none is named.
+            told.map_err(|fault| Failure::of(fault.map(Refusal::Payload), ""))
         }
         Command::Vectors { file } => judge_file(rt, file),
         Command::Run {
@@ -128,9 +130,10 @@ fn show_file<'p, R: Files + Print + AllocGlobal>(
     let types = types_at(rt, types)?;
     let mut file = open_file(rt, path)?;
     let asked = services.as_deref();
-    show(rt.alloc(), &mut file, asked, &types, &mut io::writer(rt)).map_err(
-        |error| Failure::of_show(error, path),
-    )
+    show(rt.alloc(), &mut file, asked, &types, &mut io::writer(rt)).map_err(|fault| Failure::of(
+        fault.map(Refusal::Capture),
+        path,
+    ))
 }
 
 /// Shows a recording, and then tells on standard error what was left out of it, and its fault, if it has one.
@@ -176,7 +179,7 @@ fn end_recording<R: Eprint>(rt: &R, shown: ShownRecording) -> Result<Outcome, Fa
         let _ = eprintln!(rt; "recording: {}", shown.left_out);
     }
     match shown.fault {
-        Some(fault) => Err(Failure::BadRecording(fault)),
+        Some(fault) => Err(Failure::Refused(Refusal::Recording(fault))),
         None => Ok(shown.outcome),
     }
 }
@@ -213,7 +216,7 @@ fn show_audit_at<'p, R: Files + Print + Input + AllocGlobal>(
         let mut file = open_file(rt, path)?;
         show_audit::<IntervalPool, _, _>(rt.alloc(), &mut file, asked, &mut writer)
     };
-    shown.map_err(|fault| Failure::of_recording(fault, path))
+    shown.map_err(|fault| Failure::of(fault.map(|never| match never {}), path))
 }
 
 /// The ports that are asked for, if they are named, of a command that is used so.
@@ -269,7 +272,7 @@ fn types_at<'p, R: Files + AllocGlobal>(
         return Ok(MessageTypes::none(rt.alloc()));
     };
     let mut file = open_file(rt, path)?;
-    read_types(rt.alloc(), &mut file).map_err(|fault| Failure::of_types(fault, path))
+    read_types(rt.alloc(), &mut file).map_err(|fault| Failure::of(fault.map(Refusal::Types), path))
 }
 
 /// Shows the recording at a path, or the one that comes on standard input, which is called `-`.
@@ -285,7 +288,7 @@ fn show_recording_at<'p, R: Files + Print + Input + AllocGlobal>(
         let mut file = open_file(rt, path)?;
         show_recording::<IntervalPool, _, _>(rt.alloc(), &mut file, asked, &mut writer)
     };
-    shown.map_err(|fault| Failure::of_recording(fault, path))
+    shown.map_err(|fault| Failure::of(fault.map(|never| match never {}), path))
 }
 
 fn judge_file<'p, R: Files + Print + AllocGlobal>(
@@ -293,8 +296,9 @@ fn judge_file<'p, R: Files + Print + AllocGlobal>(
     path: &'p str,
 ) -> Result<Outcome, Failure<'p>> {
     let mut file = open_file(rt, path)?;
-    vectors(rt.alloc(), &mut file, &mut io::writer(rt)).map_err(|error| Failure::of_vectors(
-        error, path,
+    vectors(rt.alloc(), &mut file, &mut io::writer(rt)).map_err(|fault| Failure::of(
+        fault.map(Refusal::Vectors),
+        path,
     ))
 }
 
@@ -327,7 +331,7 @@ fn run_files<'p, R: Files + Print + AllocGlobal>(
     let mut file = open_file(rt, schedule)?;
     match run_schedule_in_form(rt.alloc(), &network, form, &mut file, &mut io::writer(rt)) {
         Ok(()) => Ok(Outcome::Done),
-        Err(fault) => Err(Failure::of_run(fault, schedule)),
+        Err(fault) => Err(Failure::of(fault.map(Refusal::Schedule), schedule)),
     }
 }
 
@@ -340,8 +344,9 @@ fn compare_files<'p, R: Files + Print + AllocGlobal>(
     form: TraceForm,
 ) -> Result<Outcome, Failure<'p>> {
     let mut file = open_file(rt, trace)?;
-    let expected = read_expected(rt.alloc(), &mut file).map_err(|fault| Failure::of_expected(
-        fault, trace,
+    let expected = read_expected(rt.alloc(), &mut file).map_err(|fault| Failure::of(
+        fault.map(Refusal::Trace),
+        trace,
     ))?;
     let mut file = open_file(rt, schedule)?;
     compare_schedule(
@@ -352,7 +357,7 @@ fn compare_files<'p, R: Files + Print + AllocGlobal>(
         &mut file,
         &mut io::writer(rt),
     )
-    .map_err(|fault| Failure::of_run(fault, schedule))
+    .map_err(|fault| Failure::of(fault.map(Refusal::Schedule), schedule))
 }
 
 /// Draws a schedule over a setup.
@@ -365,14 +370,14 @@ fn chart_files<'p, R: Files + Print + AllocGlobal>(
     let mut file = open_file(rt, schedule)?;
     match chart_schedule(rt.alloc(), &network, &mut file, &mut io::writer(rt)) {
         Ok(()) => Ok(Outcome::Done),
-        Err(fault) => Err(Failure::of_run(fault, schedule)),
+        Err(fault) => Err(Failure::of(fault.map(Refusal::Schedule), schedule)),
     }
 }
 
 /// The setup of the file at a path.
 fn setup_at<'p, R: Files + AllocGlobal>(rt: &R, path: &'p str) -> Result<Setup, Failure<'p>> {
     let mut file = open_file(rt, path)?;
-    read_setup(rt.alloc(), &mut file).map_err(|fault| Failure::of_setup(fault, path))
+    read_setup(rt.alloc(), &mut file).map_err(|fault| Failure::of(fault.map(Refusal::Setup), path))
 }
 
 fn open_file<'p, R: Files>(rt: &R, path: &'p str) -> Result<R::File, Failure<'p>> {

@@ -1,3 +1,4 @@
+pub mod Faults
 pub mod Inputs
 pub mod Outcomes
 pub mod Sending

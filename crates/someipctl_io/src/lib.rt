@@ -3,7 +3,8 @@
 //! they end.
 //!
 //! - [`read_all`]: an input, read whole;
-//! - [`Outcome`]: how a command that did its work ended;
+//! - [`Outcome`]: how a command that did its work ended; [`Fault`]: why one did not;
+//! - [`PrintFault`]: why a text was not printed whole;
 //! - [`Buffer`], [`write_text`]: text on its way out;
 //! - [`Part`], [`put_parts`]: the parts of a line;
 //! - [`Word`], [`put_words`], [`put_end`]: the words of a line;
@@ -21,6 +22,7 @@
 #![tactic(auto)]
 
 mod discovery;
+mod fault;
 mod input;
 mod items;
 mod lines;
@@ -30,6 +32,7 @@ mod output;
 mod parts;
 mod words;
 
+pub use fault::{Fault, PrintFault};
 pub use input::{ReadFault, read_all};
 pub use items::{FoundItem, item_len, put_item};
 pub use lines::{put_dropped, put_empty, put_whole_line};

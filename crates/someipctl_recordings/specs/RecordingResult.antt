@@ -6,15 +6,11 @@ use Rattle.recording.specs.declared.RecordingError.{RecordingError}
 use Rattle.recording.specs.Records.{Item}
 use Rattle.recording.specs.HeldItems.{held_of}
 use Rattle.someip_reassembly.specs.Parts.{Limits}
-use Rattle.someipctl_show.specs.declared.PrintFault.{PrintFault}
-use Rattle.someipctl_show.specs.declared.PrintFault.TheVariants as prints
 use Rattle.someipctl_show.specs.ShowResult.{view_services}
 use Rattle.someipctl_recordings.specs.declared.asked.Asked.{Asked}
 use Rattle.someipctl_recordings.specs.declared.asked.WholeLimits.{WholeLimits}
 use Rattle.someipctl_recordings.specs.declared.recordings.Shown.{Shown}
 use Rattle.someipctl_recordings.specs.declared.recordings.ShownRecording.{ShownRecording}
-use Rattle.someipctl_recordings.specs.declared.recordings.RecordingFault.{RecordingFault}
-use Rattle.someipctl_recordings.specs.declared.recordings.RecordingFault.TheVariants.{CannotWrite, OutOfMemory}
 use Rattle.someipctl_io.specs.Inputs.{WasLeft}
 use Rattle.someipctl_io.specs.Outcomes.{fault_outcome}
 use Rattle.someipctl_io.specs.Sending.{Sends}
@@ -97,8 +93,3 @@ nothing_shown = record { datagrams = 0; now = 0; is_faulty = false; left_out = n
 -- what is told at the end, or at the fault
 abbrev pub shown_recording : Shown → Option RecordingError → ShownRecording
 shown_recording s fault = record { outcome = fault_outcome s.is_faulty; left_out = s.left_out; fault = fault }
-
--- the fault of a text that was not printed whole
-abbrev pub fault_of_print : PrintFault → RecordingFault
-fault_of_print prints.CannotWrite = CannotWrite
-fault_of_print prints.OutOfMemory = OutOfMemory

@@ -15,8 +15,9 @@ use crate::reassembly::{Told, tell_item};
 use recording::Datagram;
 use someip_reassembly::Reassembly;
 use someip_wire::{Message, Messages, WireError};
-use someipctl_io::{Buffer, FoundItem, item_len, put_dropped, put_empty, put_whole_line};
-use someipctl_show::PrintFault;
+use someipctl_io::{
+    Buffer, FoundItem, PrintFault, item_len, put_dropped, put_empty, put_whole_line,
+};
 use someipctl_show::readings::reading_of;
 use someipctl_show::value_lines::{ValueLines, put_valued_item};
 use std::alloc::{AllocError, Global};

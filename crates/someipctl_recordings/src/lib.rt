@@ -3,8 +3,7 @@
 //!
 //! - [`show_recording`]: prints what a recording shows; [`Asked`]: what of it is asked for, and
 //!   [`WholeLimits`]: what bounds messages that are put together from their segments;
-//! - [`ShownRecording`]: how that ended, with what was [`LeftOut`]; [`RecordingFault`]: why it was not
-//!   shown up to its end or its fault;
+//! - [`ShownRecording`]: how that ended, with what was [`LeftOut`];
 //! - [`limits_in`]: the limits that texts say; [`number_or`]: a number of such a text;
 //! - [`ports`]: the ports that a text names;
 //! - [`read_loop`], [`moments`], [`heads`], [`reassembly`]: what comes next of a recording, its moment, the text of
@@ -37,4 +36,4 @@ mod recordings;
 pub use asked::{Asked, WholeLimits};
 pub use left_out::LeftOut;
 pub use limits::{LimitsError, limits_in, number_or};
-pub use recordings::{RecordingFault, ShownRecording, show_recording};
+pub use recordings::{ShownRecording, show_recording};

@@ -3,9 +3,9 @@ ghost use Rattle.std.specs.Prelude.{◌<◌, [], OnOk, OnErr, IfOk};
 ghost use Rattle.someipctl_io.specs.Sending.{Sends, Stops};
 ghost use Rattle.someipctl_recordings.specs.Coming.{Comes, IsEnded, IsFurther, coming_items};
 
-use crate::recordings::RecordingFault;
 use recording::{Next, RecordingError, RecordingReader};
-use someipctl_io::Buffer;
+use someipctl_io::{Buffer, Fault};
+use std::convert::Infallible;
 use std::io;
 use std::io::{ErrorKind, Read, Write};
 
@@ -29,7 +29,7 @@ pub fn next_coming<R: Read, W: Write>(
     source: &mut R,
     buffer: &mut Buffer,
     writer: &mut W,
-) -> Result<Coming, RecordingFault>
+) -> Result<Coming, Fault<Infallible>>
     ensures comes { IfOk result (λ coming. Comes recording.old recording.new (R.remaining source.old)
         (R.remaining source.new) (coming_items coming recording.new.current)) }
     ensures further { IfOk result (λ coming.
@@ -43,7 +43,7 @@ pub fn next_coming<R: Read, W: Write>(
         match recording.next() {
             Ok(Next::Record) => return Ok(Coming::Record),
             Ok(Next::End) => return Ok(Coming::End),
-            Err(RecordingError::OutOfMemory) => return Err(RecordingFault::OutOfMemory),
+            Err(RecordingError::OutOfMemory) => return Err(Fault::OutOfMemory),
             Err(fault) => return Ok(Coming::Fault(fault)),
             Ok(Next::Unread) => {}
         }
@@ -53,13 +53,13 @@ pub fn next_coming<R: Read, W: Write>(
             Err(error) => return Err(fault_of_read(&error)),
         }
     }
-    Err(RecordingFault::CannotRead)
+    Err(Fault::CannotRead)
 }
 
 /// Why a recording could not be read on.
-fn fault_of_read(error: &io::Error) -> RecordingFault {
+fn fault_of_read(error: &io::Error) -> Fault<Infallible> {
     match error.kind() {
-        ErrorKind::OutOfMemory => RecordingFault::OutOfMemory,
-        _ => RecordingFault::CannotRead,
+        ErrorKind::OutOfMemory => Fault::OutOfMemory,
+        _ => Fault::CannotRead,
     }
 }

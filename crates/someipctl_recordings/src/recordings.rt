@@ -3,7 +3,6 @@
 ghost use Rattle.std.specs.Prelude.{◌≡◌, ◌<◌, ◌+◌, ◌^◌, [], ◌∷◌, Ok, OnOk, OnErr, IfOk, option_map};
 ghost use Rattle.recording.specs.View.{view_datagram, view_record};
 ghost use Rattle.someipctl_io.specs.Sending.{Sends, Stops};
-ghost use Rattle.someipctl_recordings.specs.declared.recordings.RecordingFault.TheVariants as faults;
 ghost use Rattle.someipctl_recordings.specs.Gathered.{IsInTime, view_store};
 ghost use Rattle.someipctl_recordings.specs.LeftOut.{left_out_of, plus, total};
 ghost use Rattle.someipctl_recordings.specs.Asked.{AskedValue, asked_in, asked_of};
@@ -11,7 +10,7 @@ ghost use Rattle.someipctl_recordings.specs.RecordedText.{after_all, after_datag
 ghost use Rattle.someipctl_recordings.specs.Asked.{is_asked, is_at_port};
 ghost use Rattle.someipctl_recordings.specs.RecordedText.{recorded_from, recorded_text};
 ghost use Rattle.someipctl_recordings.specs.RecordingResult.{BeginsRecording, PutsRecording};
-ghost use Rattle.someipctl_recordings.specs.RecordingResult.{ShowsRecording, fault_of_print, nothing_shown};
+ghost use Rattle.someipctl_recordings.specs.RecordingResult.{ShowsRecording, nothing_shown};
 ghost use Rattle.someipctl_recordings.specs.RecordingResult.{progress_of, shown_recording, view_asked, view_limits, view_ports};
 
 use crate::asked::{Asked, WholeLimits};
@@ -21,28 +20,12 @@ use crate::moments::moment_of;
 use crate::read_loop::{Coming, next_coming};
 use recording::{Datagram, Record, RecordingError, RecordingReader};
 use someip_reassembly::Reassembly;
-use someipctl_io::{Buffer, CannotWrite, Outcome, ReadFault};
-use someipctl_show::PrintFault;
+use someipctl_io::{Buffer, Fault, Outcome, PrintFault};
 use someipctl_show::services::is_asked_by;
 use someipctl_show::value_lines::ValueLines;
 use std::alloc::{AllocError, Global};
+use std::convert::Infallible;
 use std::io::{Read, Write};
-use thiserror::Error;
-
-/// Why a recording was not shown up to its end or its fault. A beginning of the text was written, which
-/// may be nothing.
-#[derive(Clone, Copy, Debug, PartialEq, Eq, Error)]
-pub enum RecordingFault {
-    /// The recording could not be read.
-    #[error("{}", ReadFault::CannotRead)]
-    CannotRead,
-    /// Writing failed, or took nothing.
-    #[error("{}", someipctl_io::CannotWrite)]
-    CannotWrite,
-    /// Memory ran out.
-    #[error("out of memory")]
-    OutOfMemory,
-}
 
 /// How showing a recording ended.
 #[derive(Clone, Copy, PartialEq, Eq)]
@@ -86,12 +69,14 @@ struct Recorder<'t, S> {
 ///
 /// One packet or block of the recording is held at a time, what its datagram says of Service Discovery,
 /// and what the body holds of messages that have come in part.
+///
+/// A recording is not refused: a fault in it ends it, and stands in what is told of it.
 pub fn show_recording<S: Reassembly + Drop, R: Read, W: Write>(
     alloc: Global,
     source: &mut R,
     asked: &Asked<'_>,
     writer: &mut W,
-) -> Result<ShownRecording, RecordingFault>
+) -> Result<ShownRecording, Fault<Infallible>>
     // The text of what comes before the recording's fault was written, or of all of it, and what is told
     // of the recording is so.
     ensures shown { IfOk result (λ shown. ShowsRecording (R.remaining source.old) (view_asked asked.now)
@@ -141,7 +126,7 @@ fn put_recording<S: Reassembly + Drop, R: Read, W: Write>(
     recorder: &mut Recorder<'_, S>,
     buffer: &mut Buffer,
     writer: &mut W,
-) -> Result<ShownRecording, RecordingFault>
+) -> Result<ShownRecording, Fault<Infallible>>
     requires empty { buffer.old ≡ [] }
     requires shown { recorder.old.shown ≡ nothing_shown }
     requires lines { recorder.old.lines ≡ [] }
@@ -166,7 +151,7 @@ fn put_recording<S: Reassembly + Drop, R: Read, W: Write>(
             put_record(buffer, writer, &found, asked, recorder)?;
         }
     }
-    Err(RecordingFault::CannotRead)
+    Err(Fault::CannotRead)
 }
 
 impl Shown {
@@ -310,32 +295,5 @@ fn is_at_port(ports: Option<&[u16]>, datagram: &Datagram<'_>) -> bool
     match ports {
         Some(ports) => ports.contains(&datagram.from.port) || ports.contains(&datagram.to.port),
         None => true,
-    }
-}
-
-impl From<PrintFault> for RecordingFault {
-    ghost from_gives = { λ fault e. e ≡ fault_of_print fault };
-
-    fn from(fault: PrintFault) -> RecordingFault {
-        match fault {
-            PrintFault::CannotWrite => RecordingFault::CannotWrite,
-            PrintFault::OutOfMemory => RecordingFault::OutOfMemory,
-        }
-    }
-}
-
-impl From<CannotWrite> for RecordingFault {
-    ghost from_gives = { λ _ e. e ≡ faults.CannotWrite };
-
-    fn from(_error: CannotWrite) -> RecordingFault {
-        RecordingFault::CannotWrite
-    }
-}
-
-impl From<AllocError> for RecordingFault {
-    ghost from_gives = { λ _ e. e ≡ faults.OutOfMemory };
-
-    fn from(_error: AllocError) -> RecordingFault {
-        RecordingFault::OutOfMemory
     }
 }

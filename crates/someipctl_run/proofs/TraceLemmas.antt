@@ -7,10 +7,11 @@ use Rattle.someip_world_rules.specs.declared.line.Line.{Line}
 use Rattle.someip_world_rules.specs.declared.reuse.Reuse.{Reuse}
 use Rattle.someip_world_setup.specs.declared.setup_node.SetupNode.{SetupNode}
 use Rattle.std.specs.Io.KnownBytes.{Appends}
+use Rattle.someipctl_io.specs.declared.fault.Fault.{Fault}
+use Rattle.someipctl_io.specs.declared.fault.Fault.TheVariants.{Refused, CannotRead, CannotWrite, OutOfMemory}
 use Rattle.someipctl_run.specs.Commands.{RanInput, RanInputInForm, RefusesInputRun, RefusesInputRunInForm}
 use Rattle.someipctl_run.specs.Traces.{formed_trace, line_text, marked_line, marked_lines, numbered_lines, number_after, reuse_line, trace_text}
-use Rattle.someipctl_run.specs.declared.error.RunFault.{RunFault}
-use Rattle.someipctl_run.specs.declared.error.RunFault.TheVariants.{BadLine, BadStep, CannotRead, CannotWrite, OutOfMemory}
+use Rattle.someipctl_run.specs.declared.error.ScheduleRefusal.{ScheduleRefusal}
 use Rattle.someipctl_run.specs.declared.form.TraceForm.TheVariants.{Plain}
 
 -- what is left begins with the next line
@@ -42,10 +43,9 @@ more_numbers number i line le = cases (is_some (datagram_in line))
 pub plain_ran : (nodes : List SetupNode) (input before after : Option (List ℕ)) → RanInputInForm Plain nodes input before after → RanInput nodes input before after
 plain_ran nodes input before after h = (h.0, h.1, (h.2.0, h.2.1, h.2.2, subst (Appends before after) (plain_trace h.0 nodes h.2.0 h.2.1) h.2.3))
 
-pub plain_refuses : (nodes : List SetupNode) (input before after : Option (List ℕ)) (fault : RunFault)
+pub plain_refuses : (nodes : List SetupNode) (input before after : Option (List ℕ)) (fault : Fault ScheduleRefusal)
     → RefusesInputRunInForm Plain nodes input fault before after → RefusesInputRun nodes input fault before after
-plain_refuses nodes input before after (BadLine line) h = h
-plain_refuses nodes input before after (BadStep index fault) h = h
+plain_refuses nodes input before after (Refused refusal) h = h
 plain_refuses nodes input before after CannotRead h = h
 plain_refuses nodes input before after CannotWrite h =
     (h.0, h.1, (h.2.0, h.2.1, h.2.2, h.2.3, h.2.4, h.2.5, h.2.6 ∙ plain_trace h.0 nodes h.2.0 h.2.1))

@@ -9,16 +9,16 @@ use Rattle.someip_world_rules.specs.declared.reuse.Reuse.{Reuse}
 use Rattle.someip_texts.specs.Lines.{lines_of}
 use Rattle.someip_world_schedule.specs.Schedule.{lines_of_steps}
 use Rattle.someip_world_setup.specs.declared.setup_node.SetupNode.{SetupNode}
+use Rattle.someipctl_io.specs.declared.fault.Fault.{Fault}
+use Rattle.someipctl_io.specs.declared.fault.Fault.TheVariants.{Refused, CannotRead, CannotWrite, OutOfMemory}
 use Rattle.someipctl_io.specs.declared.outcome.Outcome.{Outcome}
 use Rattle.someipctl_io.specs.declared.outcome.Outcome.TheVariants.{Done, FaultShown}
 use Rattle.someipctl_io.specs.Lines.{joined}
-use Rattle.someipctl_run.specs.Commands.{IsTraceOf, OfInput, RefusesReading, RefusesTrace}
+use Rattle.someipctl_run.specs.Commands.{IsTraceOf, OfInput, RefusesBeginning, RefusesReading}
 use Rattle.someipctl_run.specs.StepLines.{line_of_step}
 use Rattle.someipctl_run.specs.Traces.{came_by_text, formed_trace, marked_line, marked_verdict, number_after, shown_lines}
-use Rattle.someipctl_run.specs.declared.error.ExpectedFault.{ExpectedFault}
-use Rattle.someipctl_run.specs.declared.error.ExpectedFault.TheVariants as expected
-use Rattle.someipctl_run.specs.declared.error.RunFault.{RunFault}
-use Rattle.someipctl_run.specs.declared.error.RunFault.TheVariants.{BadLine, BadStep, CannotRead, CannotWrite, OutOfMemory}
+use Rattle.someipctl_run.specs.declared.error.BadTraceLine.{BadTraceLine}
+use Rattle.someipctl_run.specs.declared.error.ScheduleRefusal.{ScheduleRefusal}
 use Rattle.someipctl_run.specs.declared.form.TraceForm.{TraceForm}
 
 -- ---- the file
@@ -44,10 +44,11 @@ abbrev pub Expects : List ℕ → List ℕ → Type 0
 Expects text file = (first_no_line file ≡ None) × (text ≡ expected_of file)
 
 -- why it expects none
-abbrev pub RefusesExpected : Option (List ℕ) → ExpectedFault → Type 0
-RefusesExpected input (expected.BadLine line) = OfInput input (λ file. first_no_line file ≡ Some line)
-RefusesExpected input expected.CannotRead = Unit {0}
-RefusesExpected input expected.OutOfMemory = Unit {0}
+abbrev pub RefusesExpected : Option (List ℕ) → Fault BadTraceLine → Type 0
+RefusesExpected input (Refused bad) = OfInput input (λ file. first_no_line file ≡ Some bad.0)
+RefusesExpected input CannotRead = Unit {0}
+RefusesExpected input CannotWrite = ⊥
+RefusesExpected input OutOfMemory = Unit {0}
 
 -- ---- lines as they are printed
 
@@ -145,17 +146,13 @@ ComparesPartly form nodes expected text before after =
     × (sent : List ℕ) × (unsent : List ℕ) × Appends before after sent × (sent ++ unsent ≡ mismatch_text mismatch)
 
 -- what a fault says of the schedule, and of what was written
-abbrev pub RefusesComparing : TraceForm → List SetupNode → List ℕ → List ℕ → RunFault → Option (List ℕ) → Option (List ℕ) → Type 0
-RefusesComparing form nodes expected text (BadLine line) before after = RefusesTrace nodes text (BadLine line) × Keeps before after
-RefusesComparing form nodes expected text (BadStep index fault) before after = RefusesTrace nodes text (BadStep index fault) × Keeps before after
-RefusesComparing form nodes expected text CannotRead before after = ⊥
-RefusesComparing form nodes expected text CannotWrite before after = ComparesPartly form nodes expected text before after
-RefusesComparing form nodes expected text OutOfMemory before after = Keeps before after
+abbrev pub RefusesComparing : TraceForm → List SetupNode → List ℕ → List ℕ → Fault ScheduleRefusal → Option (List ℕ) → Option (List ℕ) → Type 0
+RefusesComparing form nodes expected text fault before after = RefusesBeginning (ComparesPartly form nodes expected text) nodes text fault before after
 
 -- a schedule that is read has a trace, which is compared with what is expected
 abbrev pub ComparesInput : TraceForm → List SetupNode → List ℕ → Option (List ℕ) → Outcome → Option (List ℕ) → Option (List ℕ) → Type 0
 ComparesInput form nodes expected input outcome before after = OfInput input (λ text. Compares form nodes expected text outcome before after)
 
 -- what a fault says of a schedule that is read, and of what was written, once the setup and the expected text were read
-abbrev pub RefusesInputComparing : TraceForm → List SetupNode → List ℕ → Option (List ℕ) → RunFault → Option (List ℕ) → Option (List ℕ) → Type 0
+abbrev pub RefusesInputComparing : TraceForm → List SetupNode → List ℕ → Option (List ℕ) → Fault ScheduleRefusal → Option (List ℕ) → Option (List ℕ) → Type 0
 RefusesInputComparing form nodes expected input fault before after = RefusesReading (RefusesComparing form nodes expected) input fault before after

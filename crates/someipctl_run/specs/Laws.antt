@@ -10,7 +10,7 @@ use Rattle.someip_world_setup_keys.specs.declared.error.SetupError.TheVariants a
 use Rattle.someip_world_setup.specs.declared.setup_node.SetupNode.{SetupNode}
 use Rattle.someipctl_run.specs.Commands.{RefusesInput}
 use Rattle.someipctl_run.specs.Traces.{came_by_text, formed_trace, trace_text}
-use Rattle.someipctl_run.specs.declared.error.SetupFault.TheVariants as setups
+use Rattle.someipctl_io.specs.declared.fault.Fault.TheVariants.{Refused}
 use Rattle.someipctl_run.specs.declared.form.TraceForm.TheVariants.{Plain, WithLines}
 
 -- each line of a text stands in the other one after a word, which is a number or `-`, and a space
@@ -31,4 +31,4 @@ StepsStandOnTheirLines = (text : List ℕ) → map (λ number. step_in (slice_in
 
 -- no text is refused as a setup for want of memory
 abbrev pub MemoryRefusesNoSetup : Type 0
-MemoryRefusesNoSetup = (input : Option (List ℕ)) → RefusesInput input (setups.Refused errors.OutOfMemory) → ⊥
+MemoryRefusesNoSetup = (input : Option (List ℕ)) → RefusesInput input (Refused (record { 0 = errors.OutOfMemory })) → ⊥

@@ -11,13 +11,13 @@ ghost use Rattle.someipctl_run.specs.Expected.{line_or_dash, mismatch_text, prin
 ghost use Rattle.someipctl_run.specs.FormedTraces.{lines_before_verdict, lines_in_form};
 ghost use Rattle.someipctl_run.specs.Traces.{marked_line, marked_verdict, pointed};
 
-use crate::error::RunFault;
+use crate::error::ScheduleRefusal;
 use crate::form::{FormedTrace, TraceForm};
 use crate::running::run_of_text;
 use crate::step_lines::line_of_step;
 use crate::trace_lines::{came_by_part, number_after, put_marked_line, put_verdict};
 use someip_world::{Line, Reuse, Setup, SetupNode};
-use someipctl_io::{Buffer, CannotWrite, Outcome, Part, put_parts, read_all};
+use someipctl_io::{Buffer, CannotWrite, Fault, Outcome, Part, put_parts, read_all};
 use std::alloc::{AllocError, Global};
 use std::io::{Read, Write};
 
@@ -51,7 +51,7 @@ pub fn compare_schedule<R: Read, W: Write>(
     expected: &[u8],
     reader: &mut R,
     writer: &mut W,
-) -> Result<Outcome, RunFault>
+) -> Result<Outcome, Fault<ScheduleRefusal>>
     // `Done` says that the trace is that text, byte for byte, and nothing was written; `FaultShown`
     // that the first difference was.
     ensures compared { IfOk result (λ outcome. ComparesInput form setup.now.nodes expected.now
@@ -73,7 +73,7 @@ fn compare_text<W: Write>(
     expected: &[u8],
     text: &[u8],
     writer: &mut W,
-) -> Result<Outcome, RunFault>
+) -> Result<Outcome, Fault<ScheduleRefusal>>
     ensures compared { IfOk result (λ outcome. Compares form setup.now.nodes expected.now
         text.now outcome (W.contents writer.old) (W.contents writer.new)) }
     ensures refused { IfErr result (λ fault. RefusesComparing form setup.now.nodes expected.now

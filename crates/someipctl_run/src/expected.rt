@@ -4,9 +4,9 @@ ghost use Rattle.someipctl_run.specs.Commands.{OfInput};
 ghost use Rattle.someipctl_run.specs.Expected.{Expects, RefusesExpected, first_no_line, is_no_line};
 ghost use Rattle.someipctl_run.specs.Expected.{is_unended};
 
-use crate::error::ExpectedFault;
+use crate::error::BadTraceLine;
 use someip_texts::text_of;
-use someipctl_io::read_all;
+use someipctl_io::{Fault, read_all};
 use std::alloc::Global;
 use std::io::Read;
 
@@ -14,7 +14,7 @@ use std::io::Read;
 /// where its last line has none.
 ///
 /// A line that is not UTF-8, or has a carriage return, refuses the file.
-pub fn read_expected<R: Read>(alloc: Global, reader: &mut R) -> Result<Vec<u8>, ExpectedFault>
+pub fn read_expected<R: Read>(alloc: Global, reader: &mut R) -> Result<Vec<u8>, Fault<BadTraceLine>>
     // It is the text of the file, each line of which ends with a line feed.
     ensures said { IfOk result (λ text. OfInput (R.remaining reader.old) (Expects text.items)) }
     // The error names the first bad line.
@@ -22,7 +22,7 @@ pub fn read_expected<R: Read>(alloc: Global, reader: &mut R) -> Result<Vec<u8>, 
 {
     let mut text = read_all(alloc, reader)?;
     if let Some(line) = first_no_line(&text) {
-        return Err(ExpectedFault::BadLine(line));
+        return Err(Fault::Refused(BadTraceLine(line)));
     }
     if is_unended(&text) {
         text.push(b'\n')?;

@@ -25,7 +25,7 @@ mod step_lines;
 mod trace_lines;
 
 pub use comparing::compare_schedule;
-pub use error::{ExpectedFault, RunFault, SetupFault, SetupRefusal};
+pub use error::{BadTraceLine, ScheduleRefusal, SetupRefusal};
 pub use expected::read_expected;
 pub use form::TraceForm;
 pub use outputs::told_text;

@@ -8,12 +8,12 @@ ghost use Rattle.someipctl_run.specs.Commands.{RefusesInputRun, RefusesInputRunI
 ghost use Rattle.someipctl_run.specs.Commands.{RefusesTrace};
 ghost use Rattle.someipctl_run.specs.FormedTraces.{trace_in_form};
 
-use crate::error::RunFault;
+use crate::error::{ScheduleRefusal, fault_of_run, fault_of_schedule};
 use crate::form::{FormedTrace, TraceForm};
 use crate::trace_lines::{put_lines, put_verdict};
 use someip_tp::IntervalPool;
 use someip_world::{Setup, Trace, read_numbered_schedule, run};
-use someipctl_io::{Buffer, CannotWrite, read_all};
+use someipctl_io::{Buffer, CannotWrite, Fault, read_all};
 use std::alloc::Global;
 use std::io::{Read, Write};
 
@@ -23,7 +23,7 @@ pub fn run_schedule<R: Read, W: Write>(
     setup: &Setup,
     reader: &mut R,
     writer: &mut W,
-) -> Result<(), RunFault>
+) -> Result<(), Fault<ScheduleRefusal>>
     // The trace of the schedule was written, byte for byte, and the verdict on it.
     ensures ran { OnOk result (RanInput setup.now.nodes (R.remaining reader.old)
         (W.contents writer.old) (W.contents writer.new)) }
@@ -43,7 +43,7 @@ pub fn run_schedule_in_form<R: Read, W: Write>(
     form: TraceForm,
     reader: &mut R,
     writer: &mut W,
-) -> Result<(), RunFault>
+) -> Result<(), Fault<ScheduleRefusal>>
     // The trace of the schedule was written in the form, byte for byte, and the verdict on it.
     ensures ran { OnOk result (RanInputInForm form setup.now.nodes (R.remaining reader.old)
         (W.contents writer.old) (W.contents writer.new)) }
@@ -63,7 +63,7 @@ fn run_text<W: Write>(
     form: TraceForm,
     text: &[u8],
     writer: &mut W,
-) -> Result<(), RunFault>
+) -> Result<(), Fault<ScheduleRefusal>>
     ensures ran { OnOk result (RanInForm form setup.now.nodes text.now
         (W.contents writer.old) (W.contents writer.new)) }
     ensures refused { IfErr result (λ fault. RefusesRunInForm form setup.now.nodes text.now fault
@@ -96,14 +96,14 @@ pub(crate) fn run_of_text(
     alloc: Global,
     setup: &Setup,
     text: &[u8],
-) -> Result<ScheduleRun, RunFault>
+) -> Result<ScheduleRun, Fault<ScheduleRefusal>>
     ensures ok { IfOk result
         (λ ran. IsTraceOf setup.now.nodes text.now ran.trace.lines.items ran.trace.verdict) }
     ensures lines { IfOk result (λ ran. ran.step_lines.items ≡ lines_of_steps text.now) }
     ensures err { IfErr result (RefusesTrace setup.now.nodes text.now) }
 {
-    let read = read_numbered_schedule(alloc, text)?;
-    let trace = run::<IntervalPool>(alloc, setup, &read.steps)?;
+    let read = read_numbered_schedule(alloc, text).map_err(fault_of_schedule)?;
+    let trace = run::<IntervalPool>(alloc, setup, &read.steps).map_err(fault_of_run)?;
     Ok(ScheduleRun {
         trace,
         step_lines: read.lines,

@@ -2,11 +2,12 @@
 use Rattle.std.proofs.Common.{◌≡◌, ℕ, List, [], ◌∷◌, ◌++◌, map, Option, Some, Vec, Global, refl, ap, ◌∙◌, inr}
 use Rattle.std.proofs.KnownBytes.{Appends-nil}
 use Rattle.someipctl_show.specs.Capture.{captured_datagrams}
+use Rattle.someipctl_io.specs.Faults.{fault_of_print}
 use Rattle.someipctl_io.specs.Sending.{Stops}
+use Rattle.someipctl_io.specs.declared.fault.PrintFault.{PrintFault}
+use Rattle.someipctl_io.specs.declared.fault.PrintFault.TheVariants as prints
 use Rattle.someipctl_show.specs.ShownText.{ComesWith, shown_text}
-use Rattle.someipctl_show.specs.ShowResult.{SaysDatagrams, ShowsBeginning, RefusesShow, error_of_print}
-use Rattle.someipctl_show.specs.declared.print_fault.PrintFault.{PrintFault}
-use Rattle.someipctl_show.specs.declared.print_fault.PrintFault.TheVariants as prints
+use Rattle.someipctl_show.specs.ShowResult.{SaysDatagrams, ShowsBeginning, RefusesShow}
 use Rattle.someipctl_show.specs.declared.services.AskedService.{AskedService}
 use Rattle.someipctl_show.specs.Services.{asked_among}
 use Rattle.someipctl_show.specs.types.Types.{TypesValue}
@@ -34,7 +35,7 @@ shows_beginning services types text datagrams a b is stops = record {
 
 -- what was written of a text that was not printed whole
 pub refuses_print : (services : Option (List AskedService)) (types : TypesValue) (text : List ℕ) (datagrams : List (Vec ℕ Global)) (fault : PrintFault) (a b : Option (List ℕ)) → map (λ d. Some d.items) datagrams ≡ captured_datagrams text
-    → ComesWith types fault → Stops a [] b (shown_text types (asked_among services (bytes_of_each datagrams))) → RefusesShow (Some text) services types (error_of_print fault) a b
+    → ComesWith types fault → Stops a [] b (shown_text types (asked_among services (bytes_of_each datagrams))) → RefusesShow (Some text) services types (fault_of_print fault) a b
 refuses_print services types text datagrams prints.CannotWrite a b is owed stops = shows_beginning services types text datagrams a b is stops
 refuses_print services types text datagrams prints.OutOfMemory a b is owed stops = inr (owed, shows_beginning services types text datagrams a b is stops)
 

@@ -5,8 +5,9 @@ use Rattle.std.proofs.lemmas.List.{append-nil, drop_all}
 use Rattle.someipctl_show.specs.declared.vector_lines.Question.{Question}
 use Rattle.someipctl_show.specs.declared.vector_lines.VectorLine.{VectorLine}
 use Rattle.someipctl_show.specs.declared.vector_lines.VectorLine.TheVariants.{Asks}
-use Rattle.someipctl_show.specs.declared.vectors.VectorsError.{VectorsError}
-use Rattle.someipctl_show.specs.declared.vectors.VectorsError.TheVariants.{BadVector, CannotRead, CannotWrite, OutOfMemory}
+use Rattle.someipctl_io.specs.declared.fault.Fault.{Fault}
+use Rattle.someipctl_io.specs.declared.fault.Fault.TheVariants.{Refused, CannotRead, CannotWrite, OutOfMemory}
+use Rattle.someipctl_show.specs.declared.vectors.BadVectorLine.{BadVectorLine}
 use Rattle.someipctl_show.specs.VectorLines.{asked_by, said_by}
 use Rattle.someipctl_show.specs.Vectors.{Vector, AreJudged, IsJudged, RefusesVectors, expected_text, vectors_in}
 use Rattle.someipctl_io.proofs.InputLemmas.{WasLeft-read}
@@ -38,9 +39,9 @@ judged_all lines i results end so_far =
     let none : AreJudged (vectors_in (map said_by (drop i lines))) [] = rw (drop_all i lines end) tt in
     subst (AreJudged (vectors_in (map said_by lines))) (append-nil results) (so_far [] none)
 
-pub RefusesVectors-read : (input : Option (List ℕ)) (text : List ℕ) (e : VectorsError) (a b : Option (List ℕ)) → IfSome input (λ known. text ≡ known)
+pub RefusesVectors-read : (input : Option (List ℕ)) (text : List ℕ) (e : Fault BadVectorLine) (a b : Option (List ℕ)) → IfSome input (λ known. text ≡ known)
     → RefusesVectors (Some text) e a b → RefusesVectors input e a b
-RefusesVectors-read input text (BadVector line) a b read r = ((r.0.0, WasLeft-read input text r.0.0 read r.0.1, r.0.2), r.1)
+RefusesVectors-read input text (Refused bad) a b read r = ((r.0.0, WasLeft-read input text r.0.0 read r.0.1, r.0.2), r.1)
 RefusesVectors-read input text CannotRead a b read r = r
 RefusesVectors-read input text CannotWrite a b read r = record {
   file = r.file;

@@ -4,8 +4,9 @@ use Rattle.std.specs.List.{starts_with, position_from}
 use Rattle.std.specs.Result.{result_ok}
 use Rattle.hex.specs.Hex.{decode_of}
 use Rattle.someip_texts.specs.Lines.{lines_of}
-use Rattle.someipctl_show.specs.declared.capture.CaptureError.{CaptureError}
-use Rattle.someipctl_show.specs.declared.capture.CaptureError.TheVariants.{BadHex, OutOfMemory}
+use Rattle.someipctl_io.specs.declared.fault.Fault.{Fault}
+use Rattle.someipctl_io.specs.declared.fault.Fault.TheVariants.{Refused, OutOfMemory}
+use Rattle.someipctl_show.specs.declared.capture.BadCaptureLine.{BadCaptureLine}
 
 -- a line without its spaces, the bytes 20
 abbrev pub without_blanks : List ℕ → List ℕ
@@ -47,6 +48,7 @@ abbrev pub first_bad : List ℕ → Option ℕ
 first_bad text = position_from is_bad 1 (lines_of text)
 
 -- an error names the first bad line of the text, or says that memory ran out
-abbrev pub RefusesCapture : List ℕ → CaptureError → Type 0
-RefusesCapture text (BadHex n) = first_bad text ≡ Some n
+abbrev pub RefusesCapture : List ℕ → Fault BadCaptureLine → Type 0
+RefusesCapture text (Refused bad) = first_bad text ≡ Some bad.0
 RefusesCapture text OutOfMemory = Unit {0}
+RefusesCapture text fault = ⊥

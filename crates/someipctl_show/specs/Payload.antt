@@ -12,6 +12,8 @@ use Rattle.someip_payload_values.specs.Names.{fault_name, fault_place}
 use Rattle.someip_payload_codec.specs.Faults.{FaultIn, whole}
 use Rattle.someip_payload.specs.ShapeText.{IsTextOf}
 use Rattle.someip_payload_values.specs.ValueText.{value_text}
+use Rattle.someipctl_io.specs.declared.fault.Fault.{Fault}
+use Rattle.someipctl_io.specs.declared.fault.Fault.TheVariants.{Refused, CannotRead, CannotWrite, OutOfMemory}
 use Rattle.someipctl_io.specs.declared.outcome.Outcome.{Outcome}
 use Rattle.someipctl_io.specs.declared.outcome.Outcome.TheVariants.{Done, FaultShown}
 use Rattle.std.specs.Result.{result_ok}
@@ -19,16 +21,16 @@ use Rattle.hex.specs.Hex.{decode_of}
 use Rattle.someip_payload.specs.declared.ShapeTextError.{ShapeTextError}
 use Rattle.someip_payload.specs.declared.ShapeTextError.TheVariants as shapes
 use Rattle.someipctl_show.specs.declared.payload.PayloadRefusal.{PayloadRefusal}
-use Rattle.someipctl_show.specs.declared.payload.PayloadRefusal.TheVariants.{BadShape, BadHex, CannotWrite, OutOfMemory}
+use Rattle.someipctl_show.specs.declared.payload.PayloadRefusal.TheVariants.{BadShape, BadHex}
 use Rattle.someipctl_show.specs.Capture.{is_dash}
 
 -- the bytes that an argument says: none for `-`, else those of its hex digits, of which there is one at least
 abbrev pub argument_bytes : List ℕ → Option (List ℕ)
 argument_bytes text = if length text == 0 then None else (if is_dash text then Some [] else result_ok (decode_of text))
 
--- the refusal of a shape's text
-abbrev pub refusal_of_shape : ShapeTextError → PayloadRefusal
-refusal_of_shape (shapes.BadShape place) = BadShape place
+-- why a shape is not read
+abbrev pub refusal_of_shape : ShapeTextError → Fault PayloadRefusal
+refusal_of_shape (shapes.BadShape place) = Refused (BadShape place)
 refusal_of_shape shapes.OutOfMemory = OutOfMemory
 
 -- what is printed of a value that took n of so many bytes
@@ -73,9 +75,10 @@ ShowsPayloadBeginning shape_text hex before after =
 abbrev pub IsRefusedShape : List ℕ → ℕ → Type 0
 IsRefusedShape text place = (place ≤ length text) × ((shape : Form) → IsTextOf shape text → depth shape ≤ 64 → ⊥)
 
--- what a refusal says of the arguments, and what it leaves written. SHAPE is read before HEX
-abbrev pub RefusesPayload : List ℕ → List ℕ → PayloadRefusal → Option (List ℕ) → Option (List ℕ) → Type 0
-RefusesPayload shape_text hex (BadShape place) before after = IsRefusedShape shape_text place × Keeps before after
-RefusesPayload shape_text hex BadHex before after = ((shape : Form) × IsTextOf shape shape_text) × (argument_bytes hex ≡ None) × Keeps before after
+-- what a fault says of the arguments, and what it leaves written. SHAPE is read before HEX
+abbrev pub RefusesPayload : List ℕ → List ℕ → Fault PayloadRefusal → Option (List ℕ) → Option (List ℕ) → Type 0
+RefusesPayload shape_text hex (Refused (BadShape place)) before after = IsRefusedShape shape_text place × Keeps before after
+RefusesPayload shape_text hex (Refused BadHex) before after = ((shape : Form) × IsTextOf shape shape_text) × (argument_bytes hex ≡ None) × Keeps before after
+RefusesPayload shape_text hex CannotRead before after = ⊥
 RefusesPayload shape_text hex CannotWrite before after = ShowsPayloadBeginning shape_text hex before after
 RefusesPayload shape_text hex OutOfMemory before after = Keeps before after

@@ -2,15 +2,10 @@
 use Rattle.std.specs.Prelude.{ℕ, ◌≡◌, ◌≢◌, ◌⊎◌, List, [], ◌++◌, map, Option, Some, option_map}
 use Rattle.std.specs.Borrow.{Bor}
 use Rattle.std.specs.Io.KnownBytes.{Appends, Keeps}
+use Rattle.someipctl_io.specs.declared.fault.Fault.{Fault}
+use Rattle.someipctl_io.specs.declared.fault.Fault.TheVariants.{Refused, CannotRead, CannotWrite, OutOfMemory}
 use Rattle.someipctl_io.specs.declared.outcome.Outcome.{Outcome}
-use Rattle.someipctl_show.specs.declared.capture.CaptureError.{CaptureError}
-use Rattle.someipctl_show.specs.declared.capture.CaptureError.TheVariants as captures
-use Rattle.someipctl_io.specs.declared.input.ReadFault.{ReadFault}
-use Rattle.someipctl_io.specs.declared.input.ReadFault.TheVariants as inputs
-use Rattle.someipctl_show.specs.declared.show.ShowError.{ShowError}
-use Rattle.someipctl_show.specs.declared.show.ShowError.TheVariants.{BadHex, CannotRead, CannotWrite, OutOfMemory}
-use Rattle.someipctl_show.specs.declared.print_fault.PrintFault.{PrintFault}
-use Rattle.someipctl_show.specs.declared.print_fault.PrintFault.TheVariants as prints
+use Rattle.someipctl_show.specs.declared.capture.BadCaptureLine.{BadCaptureLine}
 use Rattle.someipctl_show.specs.declared.services.AskedService.{AskedService}
 use Rattle.someipctl_show.specs.Services.{asked_among}
 use Rattle.someipctl_show.specs.types.Types.{TypesValue}
@@ -52,23 +47,8 @@ abbrev pub IsFirstBad : Option (List ℕ) → ℕ → Type 0
 IsFirstBad input line = (capture : List ℕ) × WasLeft input capture × (first_bad capture ≡ Some line)
 
 -- what an error says of a capture, and of what was written
-abbrev pub RefusesShow : Option (List ℕ) → Option (List AskedService) → TypesValue → ShowError → Option (List ℕ) → Option (List ℕ) → Type 0
-RefusesShow input services types (BadHex line) before after = IsFirstBad input line × Keeps before after
+abbrev pub RefusesShow : Option (List ℕ) → Option (List AskedService) → TypesValue → Fault BadCaptureLine → Option (List ℕ) → Option (List ℕ) → Type 0
+RefusesShow input services types (Refused bad) before after = IsFirstBad input bad.0 × Keeps before after
 RefusesShow input services types CannotRead before after = Keeps before after
 RefusesShow input services types CannotWrite before after = ShowsBeginning input services types before after
 RefusesShow input services types OutOfMemory before after = Keeps before after ⊎ ((types ≢ []) × ShowsBeginning input services types before after)
-
--- the error of a capture that was refused
-abbrev pub error_of_capture : CaptureError → ShowError
-error_of_capture (captures.BadHex line) = BadHex line
-error_of_capture captures.OutOfMemory = OutOfMemory
-
--- the error of an input that was not read
-abbrev pub error_of_input : ReadFault → ShowError
-error_of_input inputs.CannotRead = CannotRead
-error_of_input inputs.OutOfMemory = OutOfMemory
-
--- the error of a text that was not printed whole
-abbrev pub error_of_print : PrintFault → ShowError
-error_of_print prints.CannotWrite = CannotWrite
-error_of_print prints.OutOfMemory = OutOfMemory

@@ -4,12 +4,12 @@ use Rattle.std.specs.List.{list_any}
 use Rattle.someip_wire.specs.declared.WireError.{WireError}
 use Rattle.someip_wire.specs.Spelling.{MessageValue}
 use Rattle.someip_wire.specs.Reading.{items_of}
+use Rattle.someipctl_io.specs.declared.fault.PrintFault.{PrintFault}
+use Rattle.someipctl_io.specs.declared.fault.PrintFault.TheVariants.{CannotWrite, OutOfMemory}
 use Rattle.someipctl_io.specs.declared.outcome.Outcome.{Outcome}
 use Rattle.someipctl_io.specs.Outcomes.{fault_outcome}
 use Rattle.someipctl_io.specs.Lines.{empty_line}
 use Rattle.someipctl_io.specs.Items.{item_len, item_lines, is_faulty}
-use Rattle.someipctl_show.specs.declared.print_fault.PrintFault.{PrintFault}
-use Rattle.someipctl_show.specs.declared.print_fault.PrintFault.TheVariants.{CannotWrite, OutOfMemory}
 use Rattle.someipctl_show.specs.types.Types.{TypesValue}
 use Rattle.someipctl_show.specs.types.ValueLine.{value_line, has_value_fault}
 

@@ -3,11 +3,10 @@ use Rattle.std.specs.Prelude.{ℕ, ◌+◌, ◌≡◌, Bool, true, false, not, L
 use Rattle.std.specs.List.{list_any}
 use Rattle.std.specs.Str.{bytes_eq}
 use Rattle.std.specs.Io.KnownBytes.{Appends, Keeps}
+use Rattle.someipctl_io.specs.declared.fault.Fault.{Fault}
+use Rattle.someipctl_io.specs.declared.fault.Fault.TheVariants.{Refused, CannotRead, CannotWrite, OutOfMemory}
 use Rattle.someipctl_io.specs.declared.outcome.Outcome.{Outcome}
-use Rattle.someipctl_io.specs.declared.input.ReadFault.{ReadFault}
-use Rattle.someipctl_io.specs.declared.input.ReadFault.TheVariants as inputs
-use Rattle.someipctl_show.specs.declared.vectors.VectorsError.{VectorsError}
-use Rattle.someipctl_show.specs.declared.vectors.VectorsError.TheVariants.{BadVector, CannotRead, CannotWrite, OutOfMemory}
+use Rattle.someipctl_show.specs.declared.vectors.BadVectorLine.{BadVectorLine}
 use Rattle.someip_texts.specs.Lines.{lines_of}
 use Rattle.someipctl_io.specs.Lines.{joined}
 use Rattle.someipctl_io.specs.Outcomes.{fault_outcome}
@@ -116,20 +115,15 @@ abbrev pub IsFirstBadVector : Option (List ℕ) → ℕ → Type 0
 IsFirstBadVector input number = (file : List ℕ) × WasLeft input file × IsFirstBadLine (lines_of file) number
 
 -- what an error says of a file of vectors, and of what was written
-abbrev pub RefusesVectors : Option (List ℕ) → VectorsError → Option (List ℕ) → Option (List ℕ) → Type 0
-RefusesVectors input (BadVector number) before after = IsFirstBadVector input number × Keeps before after
+abbrev pub RefusesVectors : Option (List ℕ) → Fault BadVectorLine → Option (List ℕ) → Option (List ℕ) → Type 0
+RefusesVectors input (Refused bad) before after = IsFirstBadVector input bad.0 × Keeps before after
 RefusesVectors input CannotRead before after = Keeps before after
 RefusesVectors input CannotWrite before after = JudgesBeginning input before after
 RefusesVectors input OutOfMemory before after = Keeps before after
 
 -- what an error says of a file whose lines were only read
-abbrev pub RefusesLines : List ℕ → VectorsError → Type 0
-RefusesLines file (BadVector number) = IsFirstBadLine (lines_of file) number
+abbrev pub RefusesLines : List ℕ → Fault BadVectorLine → Type 0
+RefusesLines file (Refused bad) = IsFirstBadLine (lines_of file) bad.0
 RefusesLines file CannotRead = ⊥
 RefusesLines file CannotWrite = ⊥
 RefusesLines file OutOfMemory = Unit {0}
-
--- the error of an input that was not read
-abbrev pub error_of_file : ReadFault → VectorsError
-error_of_file inputs.CannotRead = CannotRead
-error_of_file inputs.OutOfMemory = OutOfMemory

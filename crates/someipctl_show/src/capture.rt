@@ -17,53 +17,31 @@ ghost use Rattle.std.specs.List.{list_all};
 ghost use Rattle.std.specs.Option.{option_map};
 ghost use Rattle.std.specs.Result.{result_ok};
 ghost use Rattle.hex.specs.Hex.{decode_of};
-ghost use Rattle.someipctl_show.specs.declared.capture.CaptureError.TheVariants.{OutOfMemory};
 ghost use Rattle.someipctl_show.specs.Capture.{bytes_of, captured_datagrams, first_bad, RefusesCapture};
 ghost use Rattle.someipctl_show.specs.Capture.{is_skipped, without_blanks};
 
 use hex::FromHexError;
-use std::alloc::{AllocError, AllocFailed, Global};
+use someipctl_io::Fault;
+use std::alloc::{AllocError, Global};
 use thiserror::Error;
 
-/// Why a capture was refused.
+/// The line of this number, counted from 1, of a capture says no bytes.
 #[derive(Clone, Copy, Debug, PartialEq, Eq, Error)]
-pub enum CaptureError {
-    /// The line of this number, counted from 1, says no bytes.
-    #[error("line {0}: bad hex")]
-    BadHex(usize),
-    /// The allocator gave no memory.
-    #[error("out of memory")]
-    OutOfMemory,
-}
-
-impl From<AllocError> for CaptureError {
-    ghost from_gives = { λ _ e. e ≡ OutOfMemory };
-
-    fn from(_e: AllocError) -> CaptureError {
-        CaptureError::OutOfMemory
-    }
-}
-
-impl<T: Drop> From<AllocFailed<T>> for CaptureError {
-    ghost from_gives = { λ _ e. e ≡ OutOfMemory };
-
-    fn from(_e: AllocFailed<T>) -> CaptureError {
-        CaptureError::OutOfMemory
-    }
-}
+#[error("line {0}: bad hex")]
+pub struct BadCaptureLine(pub usize);
 
 /// Reads a capture: the bytes of one datagram a line, in hex of either case. `-` is the empty
 /// datagram, spaces are ignored, and empty lines and lines that begin with `#` are skipped.
 ///
 /// Beside the datagrams it holds at most one line's digits at a time, so that a capture of many
 /// lines needs little more than what it says.
-pub fn read_capture(alloc: Global, text: &[u8]) -> Result<Vec<Vec<u8>>, CaptureError>
+pub fn read_capture(alloc: Global, text: &[u8]) -> Result<Vec<Vec<u8>>, Fault<BadCaptureLine>>
     // The datagrams are what the lines say, in order, and no line is bad.
     ensures found { IfOk result (λ datagrams.
         map (λ d. Some d.items) datagrams.items ≡ captured_datagrams text.now) }
     ensures only { OnOk result (first_bad text.now ≡ None) }
 
-    // The error names the first bad line.
+    // The error names the first bad line, or says that memory ran out.
     ensures fault { IfErr result (RefusesCapture text.now) }
 
     // A text with no line to read needs no memory.
@@ -77,7 +55,7 @@ pub fn read_capture(alloc: Global, text: &[u8]) -> Result<Vec<Vec<u8>>, CaptureE
         }
         match datagram_of(alloc, line, &mut digits)? {
             Some(bytes) => datagrams.push(bytes)?,
-            None => return Err(CaptureError::BadHex(i + 1)),
+            None => return Err(Fault::Refused(BadCaptureLine(i + 1))),
         }
     }
     Ok(datagrams)

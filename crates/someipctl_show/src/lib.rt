@@ -3,8 +3,7 @@
 //!
 //! - [`show`]: the messages of a capture;
 //! - [`services`]: the services whose datagrams are asked for;
-//! - [`value_lines`]: an item of a datagram with the line of its value; [`PrintFault`]: why it was not
-//!   printed;
+//! - [`value_lines`]: an item of a datagram with the line of its value;
 //! - [`readings`]: what a datagram holds for Service Discovery, item by item;
 //! - [`payload`]: the value that bytes have by a shape;
 //! - [`vectors`]: whether what is printed is what a file expects;
@@ -23,7 +22,6 @@
 mod capture;
 pub mod laws;
 pub mod payload;
-mod print_fault;
 pub mod readings;
 pub mod services;
 pub mod show;
@@ -33,6 +31,5 @@ mod vector_lines;
 pub mod vectors;
 mod words;
 
-pub use capture::{CaptureError, read_capture};
-pub use print_fault::PrintFault;
+pub use capture::{BadCaptureLine, read_capture};
 pub use words::comma_words;

@@ -3,33 +3,26 @@
 //! HEX as an argument has no spaces, and the empty argument is bad hex: no bytes are `-`.
 ghost use Rattle.std.specs.Prelude.{◌≡◌, Some, None, IfErr, IfOk, string_bytes};
 ghost use Rattle.std.specs.Option.{option_map};
-ghost use Rattle.someipctl_show.specs.declared.payload.PayloadRefusal.TheVariants.{CannotWrite, OutOfMemory};
 ghost use Rattle.someip_payload_values.specs.View.{form};
 ghost use Rattle.someipctl_show.specs.Payload.{argument_bytes, refusal_of_shape};
 ghost use Rattle.someipctl_show.specs.Payload.{ShowsPayload, RefusesPayload, Told};
 
 use hex::FromHexError;
 use someip_payload::{PayloadError, Shape, ShapeTextError, decode, read_shape};
-use someipctl_io::{Outcome, write_text};
+use someipctl_io::{Fault, Outcome, write_text};
 use std::alloc::{AllocError, Global};
 use std::io::Write;
 use thiserror::Error;
 
-/// Why a payload was not read.
+/// Why the arguments of `payload` are refused.
 #[derive(Clone, Copy, Debug, PartialEq, Eq, Error)]
 pub enum PayloadRefusal {
-    /// The shape's text is none from this byte on. Nothing was written.
+    /// The shape's text is none from this byte on.
     #[error("{}", ShapeTextError::BadShape(*.0))]
     BadShape(usize),
-    /// The payload is no hex. Nothing was written.
+    /// The payload is no hex.
     #[error("bad hex")]
     BadHex,
-    /// Writing failed, or took nothing. A beginning of the text was written.
-    #[error("{}", someipctl_io::CannotWrite)]
-    CannotWrite,
-    /// Memory ran out. Nothing was written.
-    #[error("out of memory")]
-    OutOfMemory,
 }
 
 /// Reads the payload by its shape, and writes its value and how many of its bytes that took, or the
@@ -39,7 +32,7 @@ pub fn payload<W: Write>(
     shape: &str,
     hex: &str,
     writer: &mut W,
-) -> Result<Outcome, PayloadRefusal>
+) -> Result<Outcome, Fault<PayloadRefusal>>
     // The value of a front of the bytes was written, or their first fault.
     ensures shown { IfOk result (λ outcome. ShowsPayload shape.now hex.now outcome
         (W.contents writer.old) (W.contents writer.new)) }
@@ -48,13 +41,23 @@ pub fn payload<W: Write>(
     ensures refused { IfErr result (λ error. RefusesPayload shape.now hex.now error
         (W.contents writer.old) (W.contents writer.new)) }
 {
-    let shape = read_shape(alloc, shape)?;
+    let shape = read_shape(alloc, shape).map_err(refusal_of_shape)?;
     let Some(bytes) = bytes_of_argument(alloc, hex)? else {
-        return Err(PayloadRefusal::BadHex);
+        return Err(Fault::Refused(PayloadRefusal::BadHex));
     };
     let (text, outcome) = read_text(alloc, &shape, &bytes)?;
     write_text(writer, text.as_bytes())?;
     Ok(outcome)
+}
+
+/// Why a shape is not read.
+fn refusal_of_shape(error: ShapeTextError) -> Fault<PayloadRefusal>
+    ensures { result ≡ refusal_of_shape error }
+{
+    match error {
+        ShapeTextError::BadShape(place) => Fault::Refused(PayloadRefusal::BadShape(place)),
+        ShapeTextError::OutOfMemory => Fault::OutOfMemory,
+    }
 }
 
 /// The text of the value, or of the fault, and which of them it is.
@@ -98,32 +101,5 @@ pub fn bytes_of_argument(alloc: Global, text: &str) -> Result<Option<Vec<u8>>, A
         Ok(bytes) => Ok(Some(bytes)),
         Err(FromHexError::OutOfMemory) => Err(AllocError),
         Err(_) => Ok(None),
-    }
-}
-
-impl From<ShapeTextError> for PayloadRefusal {
-    ghost from_gives = { λ error e. e ≡ refusal_of_shape error };
-
-    fn from(error: ShapeTextError) -> PayloadRefusal {
-        match error {
-            ShapeTextError::BadShape(place) => PayloadRefusal::BadShape(place),
-            ShapeTextError::OutOfMemory => PayloadRefusal::OutOfMemory,
-        }
-    }
-}
-
-impl From<AllocError> for PayloadRefusal {
-    ghost from_gives = { λ _ e. e ≡ OutOfMemory };
-
-    fn from(_error: AllocError) -> PayloadRefusal {
-        PayloadRefusal::OutOfMemory
-    }
-}
-
-impl From<someipctl_io::CannotWrite> for PayloadRefusal {
-    ghost from_gives = { λ _ e. e ≡ CannotWrite };
-
-    fn from(_error: someipctl_io::CannotWrite) -> PayloadRefusal {
-        PayloadRefusal::CannotWrite
     }
 }

@@ -6,7 +6,6 @@
 ghost use Rattle.std.specs.Prelude.{◌≡◌, ◌≢◌, ◌++◌, [], Some, OnOk, OnErr, IfOk, IfErr, map};
 ghost use Rattle.std.specs.Io.KnownBytes.{Appends};
 ghost use Rattle.someip_wire.specs.Reading.{items_of};
-ghost use Rattle.someipctl_show.specs.declared.show.ShowError.TheVariants.{OutOfMemory};
 ghost use Rattle.someipctl_io.specs.Sending.{Sends, Stops};
 ghost use Rattle.someipctl_io.specs.Discovery.{view_reading};
 ghost use Rattle.someipctl_show.specs.Readings.{BeginWith, readings_in, readings_of};
@@ -14,37 +13,17 @@ ghost use Rattle.someipctl_show.specs.Services.{asked_among};
 ghost use Rattle.someipctl_show.specs.ShownText.{ComesWith, datagram_text, lines_from, no_types};
 ghost use Rattle.someipctl_show.specs.ShownText.{shown_text, shown_outcome, has_fault};
 ghost use Rattle.someipctl_show.specs.ShowResult.{Shows, RefusesShow, view_services};
-ghost use Rattle.someipctl_show.specs.ShowResult.{error_of_capture, error_of_input, error_of_print};
 
-use crate::capture::{CaptureError, read_capture};
-use crate::print_fault::PrintFault;
+use crate::capture::{BadCaptureLine, read_capture};
 use crate::readings::{next_reading, read_ahead, read_datagram};
 use crate::services::{AskedService, is_asked_by};
 use crate::types::MessageTypes;
 use crate::value_lines::{ValueLines, put_valued_item};
 use sd_wire::{SdError, SdRead};
 use someip_wire::Messages;
-use someipctl_io::{Buffer, FoundItem, Outcome, ReadFault, item_len, put_empty, read_all};
+use someipctl_io::{Buffer, Fault, FoundItem, Outcome, PrintFault, item_len, put_empty, read_all};
 use std::alloc::{AllocError, Global};
 use std::io::{Read, Write};
-use thiserror::Error;
-
-/// Why a capture was not shown whole.
-#[derive(Clone, Copy, Debug, PartialEq, Eq, Error)]
-pub enum ShowError {
-    /// The line of this number, counted from 1, is no hex. Nothing was written.
-    #[error("{}", CaptureError::BadHex(*.0))]
-    BadHex(usize),
-    /// The capture could not be read. Nothing was written.
-    #[error("{}", ReadFault::CannotRead)]
-    CannotRead,
-    /// Writing failed, or took nothing. A beginning of the text was written.
-    #[error("{}", someipctl_io::CannotWrite)]
-    CannotWrite,
-    /// Memory ran out. Nothing was written, or where values are told a beginning of the text.
-    #[error("out of memory")]
-    OutOfMemory,
-}
 
 /// Reads a capture whole, checks every line, and then writes what it shows: for each datagram its
 /// messages and the fault that ends it, or one line where it is empty. Where services are named, only
@@ -56,7 +35,7 @@ pub fn show<R: Read, W: Write>(
     services: Option<&[AskedService]>,
     types: &MessageTypes,
     writer: &mut W,
-) -> Result<Outcome, ShowError>
+) -> Result<Outcome, Fault<BadCaptureLine>>
     // The text of all datagrams that are asked for was written, and the outcome says whether a fault is
     // in it.
     ensures shown { IfOk result (λ outcome. Shows (R.remaining reader.old) (view_services services.entry)
@@ -77,13 +56,13 @@ pub fn show_capture<W: Write>(
     services: Option<&[AskedService]>,
     types: &MessageTypes,
     writer: &mut W,
-) -> Result<Outcome, ShowError>
+) -> Result<Outcome, Fault<BadCaptureLine>>
     ensures shown { IfOk result (λ outcome. Shows (Some text.now) (view_services services.entry)
         types.now outcome (W.contents writer.old) (W.contents writer.new)) }
     ensures refused { IfErr result (λ error. RefusesShow (Some text.now) (view_services services.entry)
         types.now error (W.contents writer.old) (W.contents writer.new)) }
     // A capture that is there cannot fail to be read.
-    ensures there { result ≢ Err ShowError.CannotRead }
+    ensures there { result ≢ Err Fault.CannotRead }
 {
     let mut datagrams = read_capture(alloc, text)?;
     keep_asked(services, &mut datagrams);
@@ -232,45 +211,4 @@ fn put_items<W: Write>(
         place += item_len(&item);
     }
     Ok(faulty)
-}
-
-impl From<CaptureError> for ShowError {
-    ghost from_gives = { λ error e. e ≡ error_of_capture error };
-
-    fn from(error: CaptureError) -> ShowError {
-        match error {
-            CaptureError::BadHex(line) => ShowError::BadHex(line),
-            CaptureError::OutOfMemory => ShowError::OutOfMemory,
-        }
-    }
-}
-
-impl From<ReadFault> for ShowError {
-    ghost from_gives = { λ fault e. e ≡ error_of_input fault };
-
-    fn from(fault: ReadFault) -> ShowError {
-        match fault {
-            ReadFault::CannotRead => ShowError::CannotRead,
-            ReadFault::OutOfMemory => ShowError::OutOfMemory,
-        }
-    }
-}
-
-impl From<PrintFault> for ShowError {
-    ghost from_gives = { λ fault e. e ≡ error_of_print fault };
-
-    fn from(fault: PrintFault) -> ShowError {
-        match fault {
-            PrintFault::CannotWrite => ShowError::CannotWrite,
-            PrintFault::OutOfMemory => ShowError::OutOfMemory,
-        }
-    }
-}
-
-impl From<AllocError> for ShowError {
-    ghost from_gives = { λ _ e. e ≡ OutOfMemory };
-
-    fn from(_error: AllocError) -> ShowError {
-        ShowError::OutOfMemory
-    }
 }

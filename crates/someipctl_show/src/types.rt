@@ -4,7 +4,7 @@
 //!
 //! - [`MessageTypes`]: a types file; its line of the value of a message;
 //! - [`TypesError`]: why a text is no types file;
-//! - [`read_types`]: a types file from a reader; [`TypesFault`]: why it was not read;
+//! - [`read_types`]: a types file from a reader; [`TypesRefusal`]: that it is refused, and why;
 //! - [`laws`]: what the definitions behind the contracts promise.
 
 mod error;
@@ -19,6 +19,6 @@ mod typed_message;
 mod unknown;
 mod value_line;
 
-pub use error::{TypesError, TypesFault};
+pub use error::{TypesError, TypesRefusal};
 pub use message_types::MessageTypes;
 pub use reading::read_types;

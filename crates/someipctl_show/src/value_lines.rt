@@ -6,10 +6,9 @@ ghost use Rattle.someipctl_io.specs.Discovery.{discovery_in, view_found};
 ghost use Rattle.someipctl_io.specs.Items.{item_len, item_lines};
 ghost use Rattle.someipctl_show.specs.ShownText.{ComesWith, has_value_fault_in, shows_fault, value_of_item};
 
-use crate::print_fault::PrintFault;
 use crate::types::MessageTypes;
 use someip_wire::{Message, WireError};
-use someipctl_io::{Buffer, FoundItem, put_item};
+use someipctl_io::{Buffer, FoundItem, PrintFault, put_item};
 use std::alloc::{AllocError, Global};
 use std::io::Write;
 

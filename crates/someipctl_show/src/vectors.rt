@@ -9,40 +9,26 @@
 //! A vector that differs is a fault that was shown: the outcome and the exit status are the same.
 ghost use Rattle.std.specs.Prelude.{◌≡◌, ◌≢◌, ◌++◌, [], Some, Err, OnOk, OnErr, IfOk, IfErr, codes, map};
 ghost use Rattle.std.specs.Io.KnownBytes.{Appends};
-ghost use Rattle.someipctl_show.specs.declared.vectors.VectorsError.TheVariants.{CannotWrite, OutOfMemory};
 ghost use Rattle.someip_texts.specs.Lines.{lines_of};
 ghost use Rattle.someipctl_io.specs.Sending.{Sends, Stops};
 ghost use Rattle.someipctl_show.specs.VectorLines.{AreSaid, asked_by, has_vector, said_by};
 ghost use Rattle.someipctl_show.specs.Vectors.{AreJudged, IsJudged, IsPrintedOf, Judges, RefusesLines, RefusesVectors};
-ghost use Rattle.someipctl_show.specs.Vectors.{count_passed, error_of_file, expected_text, summary_line};
+ghost use Rattle.someipctl_show.specs.Vectors.{count_passed, expected_text, summary_line};
 ghost use Rattle.someipctl_show.specs.Vectors.{vectors_in, verdict_line, verdict_lines};
 ghost use Rattle.someipctl_show.specs.Vectors.{verdicts_text};
 
 use crate::payload::read_text;
 use crate::show::text_of_datagram;
 use crate::vector_lines::{LineFault, Question, VectorLine, line_of};
-use someipctl_io::{Buffer, Outcome, Part, ReadFault, put_parts, read_all};
-use std::alloc::{AllocError, AllocFailed, Global};
+use someipctl_io::{Buffer, CannotWrite, Fault, Outcome, Part, put_parts, read_all};
+use std::alloc::{AllocError, Global};
 use std::io::{Read, Write};
 use thiserror::Error;
 
-/// Why the vectors of a file were not all judged.
+/// The line of this number, counted from 1, is no line of a file of vectors.
 #[derive(Clone, Copy, Debug, PartialEq, Eq, Error)]
-pub enum VectorsError {
-    /// The line of this number, counted from 1, is the first that is no line of a file of vectors.
-    /// Nothing was written.
-    #[error("line {}: {}", .0, LineFault::Bad)]
-    BadVector(usize),
-    /// The file could not be read. Nothing was written.
-    #[error("{}", ReadFault::CannotRead)]
-    CannotRead,
-    /// Writing failed, or took nothing. A beginning of the text was written.
-    #[error("{}", someipctl_io::CannotWrite)]
-    CannotWrite,
-    /// Memory ran out. Nothing was written.
-    #[error("out of memory")]
-    OutOfMemory,
-}
+#[error("line {}: {}", .0, LineFault::Bad)]
+pub struct BadVectorLine(pub usize);
 
 /// Reads a file of vectors whole, checks every line, compares what is printed of each vector with
 /// what it expects, and then writes for each whether they are equal, and how many are.
@@ -50,7 +36,7 @@ pub fn vectors<R: Read, W: Write>(
     alloc: Global,
     reader: &mut R,
     writer: &mut W,
-) -> Result<Outcome, VectorsError>
+) -> Result<Outcome, Fault<BadVectorLine>>
     // Every vector was judged and its line written, and the outcome says whether one differs.
     ensures judged { IfOk result (λ outcome. Judges (R.remaining reader.old) outcome
         (W.contents writer.old) (W.contents writer.new)) }
@@ -68,13 +54,13 @@ pub fn judge_vectors<W: Write>(
     alloc: Global,
     text: &[u8],
     writer: &mut W,
-) -> Result<Outcome, VectorsError>
+) -> Result<Outcome, Fault<BadVectorLine>>
     ensures judged { IfOk result (λ outcome. Judges (Some text.now) outcome
         (W.contents writer.old) (W.contents writer.new)) }
     ensures refused { IfErr result (λ error. RefusesVectors (Some text.now) error
         (W.contents writer.old) (W.contents writer.new)) }
     // A file that is there cannot fail to be read.
-    ensures there { result ≢ Err VectorsError.CannotRead }
+    ensures there { result ≢ Err Fault.CannotRead }
 {
     let lines = read_lines(alloc, text)?;
     let results = judge(alloc, &lines)?;
@@ -84,7 +70,10 @@ pub fn judge_vectors<W: Write>(
 }
 
 /// What the lines of a file say that are not left out, or the number of the first bad one.
-fn read_lines<'t>(alloc: Global, text: &'t [u8]) -> Result<Vec<VectorLine<'t>>, VectorsError>
+fn read_lines<'t>(
+    alloc: Global,
+    text: &'t [u8],
+) -> Result<Vec<VectorLine<'t>>, Fault<BadVectorLine>>
     ensures said { IfOk result (λ lines. AreSaid (lines_of text.now) (map said_by lines.items)) }
     ensures refused { IfErr result (RefusesLines text.now) }
 {
@@ -94,12 +83,12 @@ fn read_lines<'t>(alloc: Global, text: &'t [u8]) -> Result<Vec<VectorLine<'t>>, 
             Ok(None) => {}
             Ok(Some(said)) => {
                 if !has_vector(&lines, &said) {
-                    return Err(VectorsError::BadVector(i + 1));
+                    return Err(Fault::Refused(BadVectorLine(i + 1)));
                 }
                 lines.push(said)?;
             }
-            Err(LineFault::Bad) => return Err(VectorsError::BadVector(i + 1)),
-            Err(LineFault::OutOfMemory) => return Err(VectorsError::OutOfMemory),
+            Err(LineFault::Bad) => return Err(Fault::Refused(BadVectorLine(i + 1))),
+            Err(LineFault::OutOfMemory) => return Err(Fault::OutOfMemory),
         }
     }
     Ok(lines)
@@ -183,7 +172,7 @@ fn write_verdicts<W: Write>(
     buffer: &mut Buffer,
     writer: &mut W,
     results: &[bool],
-) -> Result<(), someipctl_io::CannotWrite>
+) -> Result<(), CannotWrite>
     requires { buffer.old ≡ [] }
     ensures ok { OnOk result (Appends (W.contents writer.old)
         (W.contents writer.new) (verdicts_text results.now)) }
@@ -200,7 +189,7 @@ fn put_verdicts<W: Write>(
     buffer: &mut Buffer,
     writer: &mut W,
     results: &[bool],
-) -> Result<(), someipctl_io::CannotWrite>
+) -> Result<(), CannotWrite>
     ensures ok { OnOk result (Sends (W.contents writer.old) buffer.old
         (W.contents writer.new) buffer.new (verdict_lines 1 results.now)) }
     ensures err { OnErr result (Stops (W.contents writer.old) buffer.old
@@ -218,7 +207,7 @@ fn put_verdict<W: Write>(
     writer: &mut W,
     k: usize,
     passed: bool,
-) -> Result<(), someipctl_io::CannotWrite>
+) -> Result<(), CannotWrite>
     ensures ok { OnOk result (Sends (W.contents writer.old) buffer.old
         (W.contents writer.new) buffer.new (verdict_line k passed)) }
     ensures err { OnErr result (Stops (W.contents writer.old) buffer.old
@@ -233,7 +222,7 @@ fn put_summary<W: Write>(
     buffer: &mut Buffer,
     writer: &mut W,
     results: &[bool],
-) -> Result<(), someipctl_io::CannotWrite>
+) -> Result<(), CannotWrite>
     ensures ok { OnOk result (Sends (W.contents writer.old) buffer.old
         (W.contents writer.new) buffer.new (summary_line results.now)) }
     ensures err { OnErr result (Stops (W.contents writer.old) buffer.old
@@ -256,39 +245,4 @@ fn count_passed(results: &[bool]) -> usize
     ensures { result ≡ count_passed results.now }
 {
     results.iter().filter(|passed| **passed).count()
-}
-
-impl From<ReadFault> for VectorsError {
-    ghost from_gives = { λ fault e. e ≡ error_of_file fault };
-
-    fn from(fault: ReadFault) -> VectorsError {
-        match fault {
-            ReadFault::CannotRead => VectorsError::CannotRead,
-            ReadFault::OutOfMemory => VectorsError::OutOfMemory,
-        }
-    }
-}
-
-impl From<someipctl_io::CannotWrite> for VectorsError {
-    ghost from_gives = { λ _ e. e ≡ CannotWrite };
-
-    fn from(_error: someipctl_io::CannotWrite) -> VectorsError {
-        VectorsError::CannotWrite
-    }
-}
-
-impl From<AllocError> for VectorsError {
-    ghost from_gives = { λ _ e. e ≡ OutOfMemory };
-
-    fn from(_error: AllocError) -> VectorsError {
-        VectorsError::OutOfMemory
-    }
-}
-
-impl<T: Drop> From<AllocFailed<T>> for VectorsError {
-    ghost from_gives = { λ _ e. e ≡ OutOfMemory };
-
-    fn from(_error: AllocFailed<T>) -> VectorsError {
-        VectorsError::OutOfMemory
-    }
 }

@@ -9,15 +9,16 @@ use endings::is_end;
 use recording::RecordingError;
 use rows::{ROWS, Row, SHOWING};
 use someip_world::{SetupError, StepFault};
-use someipctl_cli::{Command, Failure, LineError, answer_error, command_of};
+use someipctl_cli::{Command, Failure, LineError, Refusal, answer_error, command_of};
+use someipctl_io::Fault;
+use someipctl_recordings::LimitsError;
 use someipctl_recordings::ports::PortsError;
-use someipctl_recordings::{LimitsError, RecordingFault};
-use someipctl_run::{RunFault, SetupFault, read_setup};
+use someipctl_run::{ScheduleRefusal, SetupRefusal, read_setup};
+use someipctl_show::BadCaptureLine;
 use someipctl_show::payload::PayloadRefusal;
 use someipctl_show::services::ServicesError;
-use someipctl_show::show::ShowError;
-use someipctl_show::types::{TypesError, TypesFault};
-use someipctl_show::vectors::VectorsError;
+use someipctl_show::types::{TypesError, TypesRefusal};
+use someipctl_show::vectors::BadVectorLine;
 use std::alloc::Global;
 use std::process::Abort;
 
@@ -34,6 +35,11 @@ fn is_told(alloc: Global, failure: Failure<'_>, text: &str, status: u8) -> bool 
     is_end(alloc, Err(failure), Some(text), status)
 }
 
+/// The failure of a command whose input is refused.
+fn refused(refusal: Refusal) -> Failure<'static> {
+    Failure::of(Fault::Refused(refusal), PATH)
+}
+
 /// Whether the fault of a text that is no setup is printed so by itself. The program prints it by way of its own.
 fn is_setup_fault(alloc: Global, mut text: &[u8], wanted: &str) -> bool {
     match read_setup(alloc, &mut text).err() {
@@ -47,19 +53,19 @@ fn is_setup_fault(alloc: Global, mut text: &[u8], wanted: &str) -> bool {
 #[test]
 fn failures_have_texts_and_statuses(rt: HostRuntime) {
     let alloc = rt.alloc();
-    let bad_hex = Failure::of_show(ShowError::BadHex(2), PATH);
+    let bad_hex = refused(Refusal::Capture(BadCaptureLine(2)));
     assert!(rt; is_told(alloc, bad_hex, "line 2: bad hex", 1));
-    let no_memory = Failure::of_show(ShowError::OutOfMemory, PATH);
+    let no_memory = Failure::of(Fault::OutOfMemory, PATH);
     assert!(rt; is_told(alloc, no_memory, "out of memory", 3));
-    let unread = Failure::of_show(ShowError::CannotRead, PATH);
+    let unread = Failure::of(Fault::CannotRead, PATH);
     assert!(rt; is_told(alloc, unread, "cannot read a/b.txt", 4));
-    let unwritten = Failure::of_show(ShowError::CannotWrite, PATH);
+    let unwritten = Failure::of(Fault::CannotWrite, PATH);
     assert!(rt; is_told(alloc, unwritten, "cannot write", 4));
-    let bad_vector = Failure::of_vectors(VectorsError::BadVector(3), PATH);
+    let bad_vector = refused(Refusal::Vectors(BadVectorLine(3)));
     assert!(rt; is_told(alloc, bad_vector, "line 3: bad vector", 1));
-    let bad_shape = Failure::of_payload(PayloadRefusal::BadShape(7));
+    let bad_shape = refused(Refusal::Payload(PayloadRefusal::BadShape(7)));
     assert!(rt; is_told(alloc, bad_shape, "bad shape at 7", 1));
-    let bad_payload = Failure::of_payload(PayloadRefusal::BadHex);
+    let bad_payload = refused(Refusal::Payload(PayloadRefusal::BadHex));
     assert!(rt; is_told(alloc, bad_payload, "bad hex", 1));
     let usage = "error: a word is no UTF-8\n\nUsage: someipctl <COMMAND>";
     assert!(rt; is_told(alloc, Failure::NotText, usage, 2));
@@ -70,17 +76,15 @@ fn failures_have_texts_and_statuses(rt: HostRuntime) {
 fn failures_of_runs_and_recordings_have_texts_and_statuses(rt: HostRuntime) {
     let alloc = rt.alloc();
     assert!(rt; is_setup_fault(alloc, b"group = \n", "setup: NotToml -"));
-    let clash = Failure::of_setup(SetupFault::Refused(SetupError::Clash("port")), PATH);
+    let clash = refused(Refusal::Setup(SetupRefusal(SetupError::Clash("port"))));
     assert!(rt; is_told(alloc, clash, "setup: Clash port", 1));
-    let unread = Failure::of_setup(SetupFault::CannotRead, PATH);
-    assert!(rt; is_told(alloc, unread, "cannot read a/b.txt", 4));
-    let bad_line = Failure::of_run(RunFault::BadLine(3), PATH);
+    let bad_line = refused(Refusal::Schedule(ScheduleRefusal::BadLine(3)));
     assert!(rt; is_told(alloc, bad_line, "line 3: bad step", 1));
-    let bad_step = Failure::of_run(RunFault::BadStep(1, StepFault::BadDelay), PATH);
+    let bad_step = refused(Refusal::Schedule(ScheduleRefusal::BadStep(1, StepFault::BadDelay)));
     assert!(rt; is_told(alloc, bad_step, "step 1: BadDelay", 1));
-    let bad_recording = Failure::BadRecording(RecordingError::BlockLength(28));
+    let bad_recording = refused(Refusal::Recording(RecordingError::BlockLength(28)));
     assert!(rt; is_told(alloc, bad_recording, "recording: BlockLength at 28", 1));
-    let unread = Failure::of_recording(RecordingFault::CannotRead, "x");
+    let unread = Failure::of(Fault::CannotRead, "x");
     assert!(rt; is_told(alloc, unread, "cannot read x", 4));
     let ports = Failure::of_ports(PortsError::BadPorts, "0", "recording [OPTIONS] <FILE>");
     let usage =
@@ -99,10 +103,8 @@ fn failures_of_options_have_texts_and_statuses(rt: HostRuntime) {
     assert!(rt; is_told(alloc, services, told, 2));
     let no_memory = Failure::of_services(ServicesError::OutOfMemory, "12", usage);
     assert!(rt; is_told(alloc, no_memory, "out of memory", 3));
-    let clash = Failure::of_types(TypesFault::Refused(TypesError::Clash("message")), PATH);
+    let clash = refused(Refusal::Types(TypesRefusal(TypesError::Clash("message"))));
     assert!(rt; is_told(alloc, clash, "types: Clash message", 1));
-    let unread = Failure::of_types(TypesFault::CannotRead, PATH);
-    assert!(rt; is_told(alloc, unread, "cannot read a/b.txt", 4));
     let slots = Failure::BadLimits(LimitsError::BadSlots);
     let told =
         "error: invalid value for '--whole-slots <N>': 1 to 1024\n\nUsage: someipctl recording [OPTIONS] <FILE>";

@@ -1,10 +1,12 @@
 //! Commands that show datagrams, without what their options add.
 use someip_tp::IntervalPool;
-use someipctl_io::Outcome;
-use someipctl_recordings::{Asked, RecordingFault, ShownRecording, show_recording};
-use someipctl_show::show::{ShowError, show};
+use someipctl_io::{Fault, Outcome};
+use someipctl_recordings::{Asked, ShownRecording, show_recording};
+use someipctl_show::BadCaptureLine;
+use someipctl_show::show::show;
 use someipctl_show::types::MessageTypes;
 use std::alloc::Global;
+use std::convert::Infallible;
 use std::io::{Read, Write};
 
 /// Shows all of a capture, and no value.
@@ -12,7 +14,7 @@ pub fn show_all<R: Read, W: Write>(
     alloc: Global,
     reader: &mut R,
     writer: &mut W,
-) -> Result<Outcome, ShowError> {
+) -> Result<Outcome, Fault<BadCaptureLine>> {
     let types = MessageTypes::none(alloc);
     show(alloc, reader, None, &types, writer)
 }
@@ -23,7 +25,7 @@ pub fn show_endpoints<R: Read, W: Write>(
     source: &mut R,
     ports: Option<&[u16]>,
     writer: &mut W,
-) -> Result<ShownRecording, RecordingFault> {
+) -> Result<ShownRecording, Fault<Infallible>> {
     let types = MessageTypes::none(alloc);
     let asked = Asked {
         ports,

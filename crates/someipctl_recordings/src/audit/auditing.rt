@@ -7,7 +7,6 @@ ghost use Rattle.someipctl_recordings.specs.audit.AuditText.{found_line};
 ghost use Rattle.someipctl_recordings.specs.audit.Scenes.{view_seen};
 ghost use Rattle.someipctl_recordings.specs.audit.Steps.{CountsMore, PutsDue, PutsSeen, StopsDue, StopsSeen};
 
-use crate::RecordingFault;
 use crate::audit::lines::{put_fell_due, put_found};
 use crate::audit::tally::Tally;
 use recording::Time;
@@ -15,8 +14,9 @@ use someip_audit::{Audit, Finding};
 use someip_reassembly::Reassembly;
 use someip_tables::Moment;
 use someip_tables::hashed::Origin;
-use someipctl_io::Buffer;
+use someipctl_io::{Buffer, Fault};
 use std::alloc::Global;
+use std::convert::Infallible;
 use std::io::Write;
 
 /// A datagram of a recording, as an audit sees it.
@@ -42,7 +42,7 @@ pub(crate) fn put_seen<S: Reassembly + Drop, W: Write>(
     seen: &SeenDatagram<'_>,
     findings: &mut Vec<Finding>,
     tally: &mut Tally,
-) -> Result<(), RecordingFault>
+) -> Result<(), Fault<Infallible>>
     ensures puts { OnOk result (PutsSeen seen.entry.now.time (view_seen seen.entry.now)
         audit.old audit.new tally.old tally.new (W.contents writer.old) buffer.old (W.contents writer.new) buffer.new) }
     ensures stops { OnErr result (StopsSeen seen.entry.now.time (view_seen seen.entry.now) audit.old
@@ -62,7 +62,7 @@ pub(crate) fn put_due<S: Reassembly + Drop, W: Write>(
     audit: &mut Audit<S>,
     now: Moment,
     tally: &mut Tally,
-) -> Result<(), RecordingFault>
+) -> Result<(), Fault<Infallible>>
     ensures puts { OnOk result (PutsDue now audit.old audit.new tally.old tally.new
         (W.contents writer.old) buffer.old (W.contents writer.new) buffer.new) }
     ensures stops { OnErr result (StopsDue now audit.old
@@ -75,7 +75,7 @@ pub(crate) fn put_due<S: Reassembly + Drop, W: Write>(
         let kind = put_fell_due(buffer, writer, &told)?;
         tally.tell(kind)?;
     }
-    Err(RecordingFault::OutOfMemory)
+    Err(Fault::OutOfMemory)
 }
 
 /// Prints the findings of a datagram with this time.
@@ -86,7 +86,7 @@ fn put_all_found<W: Write>(
     origin: &Origin,
     findings: &[Finding],
     tally: &mut Tally,
-) -> Result<(), RecordingFault>
+) -> Result<(), Fault<Infallible>>
     ensures ok { OnOk result (Sends (W.contents writer.old) buffer.old (W.contents writer.new) buffer.new
         (flat_map (found_line time origin.now) findings.now)) }
     ensures counts { OnOk result (CountsMore tally.old tally.new (map (found origin.now) findings.now)) }

@@ -22,14 +22,15 @@ use crate::audit::tally::Tally;
 use crate::moments::moment_of;
 use crate::read_loop::{Coming, next_coming};
 use crate::reassembly::socket_of;
-use crate::{LeftOut, RecordingFault, ShownRecording};
+use crate::{LeftOut, ShownRecording};
 use recording::{Datagram, Record, RecordingError, RecordingReader, Time};
 use someip_audit::{Audit, Finding};
 use someip_reassembly::Reassembly;
 use someip_tables::Moment;
 use someip_tables::hashed::Origin;
-use someipctl_io::{Buffer, Outcome};
+use someipctl_io::{Buffer, Fault, Outcome};
 use std::alloc::{AllocError, Global};
+use std::convert::Infallible;
 use std::io::{Read, Write};
 
 /// What is kept from datagram to datagram.
@@ -65,7 +66,7 @@ pub fn show_audit<S: Reassembly + Drop, R: Read, W: Write>(
     source: &mut R,
     asked: &AuditAsked<'_>,
     writer: &mut W,
-) -> Result<ShownRecording, RecordingFault>
+) -> Result<ShownRecording, Fault<Infallible>>
     // The text of the audit of what comes before the recording's fault was written, or of all of it, and what
     // is told of the recording is so: its outcome says whether there are findings.
     ensures shown { IfOk result (λ shown. ShowsAudit (R.remaining source.old) (view_asked asked.now)
@@ -87,7 +88,7 @@ fn put_from_start<S: Reassembly + Drop, R: Read, W: Write>(
     asked: &AuditAsked<'_>,
     buffer: &mut Buffer,
     writer: &mut W,
-) -> Result<ShownRecording, RecordingFault>
+) -> Result<ShownRecording, Fault<Infallible>>
     requires empty { buffer.old ≡ [] }
     ensures puts { IfOk result (λ shown. PutsAudit (R.remaining source.old) (view_asked asked.now)
         shown (W.contents writer.old) (W.contents writer.new) buffer.new) }
@@ -109,7 +110,7 @@ fn put_audit<S: Reassembly + Drop, R: Read, W: Write>(
     auditing: &mut Auditing<S>,
     buffer: &mut Buffer,
     writer: &mut W,
-) -> Result<ShownRecording, RecordingFault>
+) -> Result<ShownRecording, Fault<Infallible>>
     requires empty { buffer.old ≡ [] }
     requires begun { auditing.old.audit ≡ None }
     ensures puts { IfOk result (λ shown. PutsAudit (R.remaining source.old) (view_asked asked.now)
@@ -132,7 +133,7 @@ fn put_audit<S: Reassembly + Drop, R: Read, W: Write>(
             put_record(buffer, writer, asked, &found, auditing, &mut gone)?;
         }
     }
-    Err(RecordingFault::CannotRead)
+    Err(Fault::CannotRead)
 }
 
 /// Prints what is told of a record, and counts it.
@@ -143,7 +144,7 @@ fn put_record<S: Reassembly + Drop, W: Write>(
     found: &Record<'_>,
     auditing: &mut Auditing<S>,
     gone: &mut Gone,
-) -> Result<(), RecordingFault>
+) -> Result<(), Fault<Infallible>>
     requires few { gone.old.datagrams + total gone.old.left_out + 1 < 2 ^ 64 }
     ensures puts { OnOk result (PutsRecord (view_asked asked.now) (view_record found.now)
         auditing.old.audit auditing.new.audit gone.old gone.new
@@ -170,7 +171,7 @@ fn put_datagram<S: Reassembly + Drop, W: Write>(
     datagram: &Datagram<'_>,
     auditing: &mut Auditing<S>,
     gone: &mut Gone,
-) -> Result<(), RecordingFault>
+) -> Result<(), Fault<Infallible>>
     requires few { gone.old.datagrams + 1 < 2 ^ 64 }
     ensures puts { OnOk result (PutsDatagram (view_asked asked.now) (view_datagram datagram.now)
         auditing.old.audit auditing.new.audit gone.old gone.new
@@ -221,7 +222,7 @@ fn put_next<S: Reassembly + Drop, W: Write>(
     seen: &SeenDatagram<'_>,
     auditing: &mut Auditing<S>,
     tally: &mut Tally,
-) -> Result<(), RecordingFault>
+) -> Result<(), Fault<Infallible>>
     ensures puts { OnOk result (PutsNext (view_asked asked.now) seen.entry.now auditing.old.audit auditing.new.audit
         tally.old tally.new (W.contents writer.old) buffer.old (W.contents writer.new) buffer.new) }
     ensures stops { OnErr result (StopsNext (view_asked asked.now) seen.entry.now auditing.old.audit
@@ -262,7 +263,7 @@ fn put_end<S: Reassembly + Drop, W: Write>(
     auditing: &mut Auditing<S>,
     gone: &mut Gone,
     fault: Option<RecordingError>,
-) -> Result<ShownRecording, RecordingFault>
+) -> Result<ShownRecording, Fault<Infallible>>
     ensures puts { (reports : List Report) (looked : Looked) → Counts gone.old.tally reports looked
         → IfOk result (PutsEnd gone.old auditing.old.audit reports looked
         (W.contents writer.old) buffer.old (W.contents writer.new) buffer.new) }
@@ -294,7 +295,7 @@ fn put_last<S: Reassembly + Drop, W: Write>(
     audit: &mut Option<Audit<S>>,
     now: Moment,
     tally: &mut Tally,
-) -> Result<(), RecordingFault>
+) -> Result<(), Fault<Infallible>>
     ensures puts { OnOk result (PutsLast now audit.old tally.old tally.new
         (W.contents writer.old) buffer.old (W.contents writer.new) buffer.new) }
     ensures stops { OnErr result (StopsLast now audit.old

@@ -5,13 +5,13 @@ ghost use Rattle.someipctl_run.specs.Commands.{RefusesTrace};
 ghost use Rattle.someipctl_run.specs.chart.Charts.{Charts, ChartsInput, HasTrace, RefusesChart};
 ghost use Rattle.someipctl_run.specs.chart.Charts.{RefusesInputChart};
 
-use crate::RunFault;
 use crate::chart::datagrams::{deliveries_in, sent_in};
 use crate::chart::drawing::{Picture, svg_of};
 use crate::chart::rows::{Rows, step_texts};
+use crate::error::{ScheduleRefusal, fault_of_run, fault_of_schedule};
 use someip_tp::IntervalPool;
 use someip_world::{Setup, Step, Trace, read_schedule, run};
-use someipctl_io::{read_all, write_text};
+use someipctl_io::{Fault, read_all, write_text};
 use std::alloc::{AllocError, Global};
 use std::io::{Read, Write};
 
@@ -22,7 +22,7 @@ pub fn chart_schedule<R: Read, W: Write>(
     setup: &Setup,
     reader: &mut R,
     writer: &mut W,
-) -> Result<(), RunFault>
+) -> Result<(), Fault<ScheduleRefusal>>
     // The schedule has a trace, and a picture was written.
     ensures charted { OnOk result (ChartsInput setup.now.nodes (R.remaining reader.old)
         (W.contents writer.old) (W.contents writer.new)) }
@@ -41,7 +41,7 @@ fn chart_text<W: Write>(
     setup: &Setup,
     text: &[u8],
     writer: &mut W,
-) -> Result<(), RunFault>
+) -> Result<(), Fault<ScheduleRefusal>>
     ensures charted { OnOk result (Charts setup.now.nodes text.now
         (W.contents writer.old) (W.contents writer.new)) }
     ensures refused { IfErr result (λ fault. RefusesChart setup.now.nodes text.now fault
@@ -53,12 +53,12 @@ fn chart_text<W: Write>(
 }
 
 /// The picture of the trace of the schedule that a text spells.
-fn picture_of(alloc: Global, setup: &Setup, text: &[u8]) -> Result<String, RunFault>
+fn picture_of(alloc: Global, setup: &Setup, text: &[u8]) -> Result<String, Fault<ScheduleRefusal>>
     ensures ok { OnOk result (HasTrace setup.now.nodes text.now) }
     ensures err { IfErr result (RefusesTrace setup.now.nodes text.now) }
 {
-    let steps = read_schedule(alloc, text)?;
-    let trace = run::<IntervalPool>(alloc, setup, &steps)?;
+    let steps = read_schedule(alloc, text).map_err(fault_of_schedule)?;
+    let trace = run::<IntervalPool>(alloc, setup, &steps).map_err(fault_of_run)?;
     let svg = drawn(alloc, setup, text, &steps, &trace)?;
     Ok(svg)
 }

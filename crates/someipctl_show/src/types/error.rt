@@ -1,9 +1,7 @@
-//! Why a text is no types file, or none was read.
+//! Why a text is no types file.
 ghost use Rattle.std.specs.Prelude.{◌≡◌};
 ghost use Rattle.someipctl_show.specs.declared.types.error.TypesError.TheVariants.{OutOfMemory};
-ghost use Rattle.someipctl_show.specs.types.TypesInput.{fault_of_input};
 
-use someipctl_io::ReadFault;
 use std::alloc::{AllocError, AllocFailed};
 use thiserror::Error;
 
@@ -52,27 +50,7 @@ impl<T: Drop> From<AllocFailed<T>> for TypesError {
     }
 }
 
-/// Why no types file was read.
+/// Prints that a types file is refused, and why.
 #[derive(Debug, Drop, Error)]
-pub enum TypesFault {
-    /// Its text is no types file.
-    #[error("types: {0}")]
-    Refused(TypesError),
-    /// It could not be read.
-    #[error("{}", ReadFault::CannotRead)]
-    CannotRead,
-    /// Memory ran out.
-    #[error("out of memory")]
-    OutOfMemory,
-}
-
-impl From<ReadFault> for TypesFault {
-    ghost from_gives = { λ fault e. e ≡ fault_of_input fault };
-
-    fn from(fault: ReadFault) -> TypesFault {
-        match fault {
-            ReadFault::CannotRead => TypesFault::CannotRead,
-            ReadFault::OutOfMemory => TypesFault::OutOfMemory,
-        }
-    }
-}
+#[error("types: {0}")]
+pub struct TypesRefusal(pub TypesError);

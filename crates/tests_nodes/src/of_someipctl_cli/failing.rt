@@ -4,7 +4,7 @@ use crate::showing::show_all;
 use crate::slow::{Limits, NEVER, SlowReader, SlowWriter};
 use rows::{Command, End, READINGS, RUNS, Row};
 use someip_world::Setup;
-use someipctl_cli::Failure;
+use someipctl_cli::{Failure, Refusal};
 use someipctl_io::Outcome;
 use someipctl_run::{
     TraceForm, compare_schedule, read_expected, read_setup, run_schedule, run_schedule_in_form,
@@ -40,12 +40,12 @@ fn compare<R: Read>(
 ) -> Result<Outcome, Failure<'static>> {
     let trace = match read_expected(alloc, expected) {
         Ok(trace) => trace,
-        Err(fault) => return Err(Failure::of_expected(fault, PATH)),
+        Err(fault) => return Err(Failure::of(fault.map(Refusal::Trace), PATH)),
     };
     let form = TraceForm::Plain;
     match compare_schedule(alloc, network, form, &trace, &mut schedule, writer) {
         Ok(outcome) => Ok(outcome),
-        Err(fault) => Err(Failure::of_run(fault, PATH)),
+        Err(fault) => Err(Failure::of(fault.map(Refusal::Schedule), PATH)),
     }
 }
 
@@ -66,7 +66,7 @@ fn run_part<R: Read>(
     };
     match ran {
         Ok(()) => Ok(Outcome::Done),
-        Err(fault) => Err(Failure::of_run(fault, PATH)),
+        Err(fault) => Err(Failure::of(fault.map(Refusal::Schedule), PATH)),
     }
 }
 
@@ -81,7 +81,7 @@ fn run_over<S: Read, R: Read>(
 ) -> Result<Outcome, Failure<'static>> {
     match read_setup(alloc, setup) {
         Ok(network) => run_part(alloc, &network, part, reader, writer),
-        Err(fault) => Err(Failure::of_setup(fault, PATH)),
+        Err(fault) => Err(Failure::of(fault.map(Refusal::Setup), PATH)),
     }
 }
 
@@ -95,15 +95,15 @@ fn perform(
     match command {
         Command::Show => match show_all(alloc, reader, writer) {
             Ok(outcome) => Ok(outcome),
-            Err(error) => Err(Failure::of_show(error, PATH)),
+            Err(fault) => Err(Failure::of(fault.map(Refusal::Capture), PATH)),
         },
         Command::Vectors => match vectors(alloc, reader, writer) {
             Ok(outcome) => Ok(outcome),
-            Err(error) => Err(Failure::of_vectors(error, PATH)),
+            Err(fault) => Err(Failure::of(fault.map(Refusal::Vectors), PATH)),
         },
         Command::Payload(shape, hex) => match payload(alloc, shape, hex, writer) {
             Ok(outcome) => Ok(outcome),
-            Err(refusal) => Err(Failure::of_payload(refusal)),
+            Err(fault) => Err(Failure::of(fault.map(Refusal::Payload), PATH)),
         },
         Command::RunSetup(mut schedule) => {
             run_over(alloc, reader, Part::Schedule, &mut schedule, writer)

@@ -3,8 +3,8 @@
 use crate::printed::is_printed;
 use crate::showing::show_endpoints;
 use crate::slow::{Limits, SlowReader, SlowWriter, UNLIMITED};
-use someipctl_io::Outcome;
-use someipctl_recordings::{LeftOut, RecordingFault};
+use someipctl_io::{Fault, Outcome};
+use someipctl_recordings::LeftOut;
 use std::alloc::Global;
 use std::io::ErrorKind;
 
@@ -76,7 +76,7 @@ fn is_written(alloc: Global, fails_at: usize) -> bool {
                 && matches!(shown.outcome, Outcome::Done)
                 && shown.fault.is_none()
         }
-        Err(RecordingFault::CannotWrite) => taken.len() == fails_at && TEXT.starts_with(taken),
+        Err(Fault::CannotWrite) => taken.len() == fails_at && TEXT.starts_with(taken),
         Err(_) => false,
     }
 }
@@ -93,7 +93,7 @@ fn is_written_before(alloc: Global, fails_at: usize, text: &[u8]) -> bool {
     let mut reader = SlowReader::new(FILE, fails_at, ErrorKind::Other);
     let mut writer = SlowWriter::new(alloc, UNLIMITED);
     let shown = show_endpoints(alloc, &mut reader, None, &mut writer);
-    matches!(shown, Err(RecordingFault::CannotRead)) && writer.taken.as_slice() == text
+    matches!(shown, Err(Fault::CannotRead)) && writer.taken.as_slice() == text
 }
 
 #[test]

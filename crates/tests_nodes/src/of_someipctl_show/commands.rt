@@ -1,10 +1,9 @@
 //! Captures and payloads, of which no command line shows all.
 use crate::showing::show_all;
 use crate::slow::{Limits, NEVER, SlowWriter, UNLIMITED};
-use someipctl_io::Outcome;
+use someipctl_io::{Fault, Outcome};
 use someipctl_show::payload::{PayloadRefusal, payload};
 use someipctl_show::read_capture;
-use someipctl_show::show::ShowError;
 use std::alloc::{AllocError, Global};
 
 /// Lengths of payloads at the edges of what is turned into hex and held back at once.
@@ -70,7 +69,7 @@ fn is_shown(alloc: Global, mut capture: &[u8], text: &[u8], limits: Limits) -> b
     let taken = writer.taken.as_slice();
     match outcome {
         Ok(Outcome::Done) => taken == text,
-        Err(ShowError::CannotWrite) => limits.takes_nothing && text.starts_with(taken),
+        Err(Fault::CannotWrite) => limits.takes_nothing && text.starts_with(taken),
         _ => false,
     }
 }
@@ -166,7 +165,7 @@ fn is_payload_refused(alloc: Global, shape: &str, hex: &str) -> bool {
     let mut writer = SlowWriter::new(alloc, UNLIMITED);
     let refused = matches!(
         payload(alloc, shape, hex, &mut writer),
-        Err(PayloadRefusal::BadHex),
+        Err(Fault::Refused(PayloadRefusal::BadHex)),
     );
     refused && writer.taken.is_empty()
 }

@@ -13,7 +13,7 @@ returns-clause-shown g c =
     let answers : AnswersPayload c.args.shape.now c.args.hex.now (string_bytes c.in_ok-text.text) c.in_ok-text.outcome =
     record {
       shape = form c.in_ok-shape.shape;
-      named = c.in_ok-shape.ensures.found;
+      named = search rules;
       bytes = c.in-Some.bytes.items;
       says = says;
       told = rw c.deref.ensures.value at c.in_ok-text.ensures;
@@ -27,7 +27,7 @@ returns-in_err-write_text-clause-refused g c =
     let answers : AnswersPayload c.args.shape.now c.args.hex.now (string_bytes c.in_ok-text.text) c.in_ok-text.outcome =
     record {
       shape = form c.in_ok-shape.shape;
-      named = c.in_ok-shape.ensures.found;
+      named = search rules;
       bytes = c.in-Some.bytes.items;
       says = says;
       told = rw c.deref.ensures.value at c.in_ok-text.ensures;
