@@ -39,7 +39,7 @@ pub fn next_coming<R: Read, W: Write>(
         buffer.new []) }
     ensures stops { OnErr result (Stops (W.contents writer.old) buffer.old (W.contents writer.new) []) }
 {
-    for _ in 0..u64::MAX {
+    loop {
         match recording.next() {
             Ok(Next::Record) => return Ok(Coming::Record),
             Ok(Next::End) => return Ok(Coming::End),
@@ -53,7 +53,6 @@ pub fn next_coming<R: Read, W: Write>(
             Err(error) => return Err(fault_of_read(&error)),
         }
     }
-    Err(Fault::CannotRead)
 }
 
 /// Why a recording could not be read on.

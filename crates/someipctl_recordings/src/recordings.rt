@@ -140,7 +140,7 @@ fn put_recording<S: Reassembly + Drop, R: Read, W: Write>(
         (W.contents writer.old) (W.contents writer.new)) }
 {
     let mut recording = RecordingReader::new(recorder.telling.alloc);
-    for _ in 0..u64::MAX {
+    loop {
         let coming = next_coming(&mut recording, source, buffer, writer)?;
         match coming {
             Coming::Record => {}
@@ -151,7 +151,6 @@ fn put_recording<S: Reassembly + Drop, R: Read, W: Write>(
             put_record(buffer, writer, &found, asked, recorder)?;
         }
     }
-    Err(Fault::CannotRead)
 }
 
 impl Shown {

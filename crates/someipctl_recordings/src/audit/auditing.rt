@@ -68,14 +68,13 @@ pub(crate) fn put_due<S: Reassembly + Drop, W: Write>(
     ensures stops { OnErr result (StopsDue now audit.old
         (W.contents writer.old) buffer.old (W.contents writer.new)) }
 {
-    for _ in 0..u64::MAX {
+    loop {
         let Some(told) = audit.due(now) else {
             return Ok(());
         };
         let kind = put_fell_due(buffer, writer, &told)?;
         tally.tell(kind)?;
     }
-    Err(Fault::OutOfMemory)
 }
 
 /// Prints the findings of a datagram with this time.

@@ -120,7 +120,7 @@ fn put_audit<S: Reassembly + Drop, R: Read, W: Write>(
 {
     let mut recording = RecordingReader::new(auditing.alloc);
     let mut gone = Gone::nothing();
-    for _ in 0..u64::MAX {
+    loop {
         let coming = next_coming(&mut recording, source, buffer, writer)?;
         match coming {
             Coming::Record => {}
@@ -133,7 +133,6 @@ fn put_audit<S: Reassembly + Drop, R: Read, W: Write>(
             put_record(buffer, writer, asked, &found, auditing, &mut gone)?;
         }
     }
-    Err(Fault::CannotRead)
 }
 
 /// Prints what is told of a record, and counts it.

@@ -2,7 +2,7 @@
 //!
 //! Where 2^64 things were counted, the audit ends as where memory runs out: no recording has so many
 //! datagrams.
-ghost use Rattle.std.specs.Prelude.{◌≡◌, ◌+◌, [], IfOk, OnOk};
+ghost use Rattle.std.specs.Prelude.{◌≡◌, ◌<◌, ◌+◌, ◌^◌, [], IfOk, OnOk};
 ghost use Rattle.someipctl_recordings.specs.audit.Tallies.{Counts, tally_after, tally_looked};
 
 use crate::audit::kind::{KIND_COUNT, Kind};
@@ -36,7 +36,8 @@ impl Tally {
 
     /// Counts one more finding of a kind. The error is that there is no room for its number.
     pub(crate) fn tell(&mut self, kind: Kind) -> Result<(), AllocError>
-        ensures { OnOk result (self.new ≡ tally_after kind self.old) }
+        ensures counted { OnOk result (self.new ≡ tally_after kind self.old) }
+        ensures few { OnOk result (self.new.findings < 2 ^ 64) }
     {
         let number = kind.number();
         let findings = one_more(self.findings)?;

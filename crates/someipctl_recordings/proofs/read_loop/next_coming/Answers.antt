@@ -6,16 +6,16 @@ use Rattle.someipctl_recordings.proofs.ComingLemmas.{comes_both, comes_unread, c
 use Rattle.someipctl_recordings.proofs.read_loop.next_coming.Goals as goal
 
 pub returns-in_err-flush-clause-stops : goal.returns-in_err-flush-clause-stops
-returns-in_err-flush-clause-stops g c = OnErr-any c.from_residual.result (Stops-flush _ _ _ _ _ _ c.loop.invariant.1 c.in_err-flush.ensures.err)
+returns-in_err-flush-clause-stops g c = OnErr-any c.from_residual.result (Stops-flush _ _ _ _ _ _ c.loop-fault.invariant.1 c.in_err-flush.ensures.err)
 
-pub loop-preserved : goal.loop-preserved
-loop-preserved g c =
+pub loop-fault-preserved : goal.loop-fault-preserved
+loop-fault-preserved g c =
     let e = c.in-Ok-Unread.ensures in
-    let none : IsNext c.loop.recording c.next.new.self Unread = rw c.in-Ok-Unread.field-0-is at e.next in
+    let none : IsNext c.loop-fault.recording c.next.new.self Unread = rw c.in-Ok-Unread.field-0-is at e.next in
     let read = c.in-Ok.ensures.read in
     let place = ap (λ (r : ReaderValue). r.place) read.is in (
-      comes_both _ _ _ _ _ _ [] [] c.loop.invariant.0
-          (comes_both _ _ _ _ _ _ [] [] (comes_unread c.loop.recording c.next.new.self (g.R.Read.remaining c.loop.source) none e.whole) (comes_read c.next.new.self c.read_from.new.self _ _ read)),
-      Sends-flush _ _ _ _ _ _ _ c.loop.invariant.1 c.in_ok-flush.ensures.ok,
-      omega (arith, c.loop.invariant.2, e.forward, place),
+      comes_both _ _ _ _ _ _ [] [] c.loop-fault.invariant.0
+          (comes_both _ _ _ _ _ _ [] [] (comes_unread c.loop-fault.recording c.next.new.self (g.R.Read.remaining c.loop-fault.source) none e.whole) (comes_read c.next.new.self c.read_from.new.self _ _ read)),
+      Sends-flush _ _ _ _ _ _ _ c.loop-fault.invariant.1 c.in_ok-flush.ensures.ok,
+      omega (arith, c.loop-fault.invariant.2, e.forward, place),
     )

@@ -21,7 +21,7 @@ returns-in_err-tell-clause-err g c =
 pub loop-finding-preserved : goal.loop-finding-preserved
 loop-finding-preserved g c =
     let is = drop_more c.args.findings.now c.loop-finding.finding-index _ c.loop-finding-test.true in
-    let counted = c.in_ok-tell.ensures ∙ ap (λ k. tally_after k c.loop-finding.tally) c.in_ok-kind.ensures.0 in (
+    let counted = c.in_ok-tell.ensures.counted ∙ ap (λ k. tally_after k c.loop-finding.tally) c.in_ok-kind.ensures.0 in (
       IsSending-more _ _ _ _ _ _ _ _ _ _ c.loop-finding.invariant.0 (ap (flat_map (found_line c.args.time c.args.origin.now)) is) c.in_ok-kind.ensures.1,
       λ later more. c.loop-finding.invariant.1 later (rw is (counts_cons c.loop-finding.tally _ later _ _ counted more)),
     )
