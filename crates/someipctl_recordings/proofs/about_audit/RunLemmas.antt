@@ -13,7 +13,7 @@ use Rattle.recording.specs.Packets.{DatagramValue, RecordValue, datagram, other}
 use Rattle.recording.specs.Readers.{CanFollow, ReaderValue, to_come}
 use Rattle.recording.specs.Records.{Item}
 use Rattle.someip_audit.specs.declared.FellDue.{FellDue}
-use Rattle.someip_audit.specs.Audits.{AuditState, Hears, Report, Seen, fell, found, seen_messages}
+use Rattle.someip_audit.specs.Audits.{AuditState, Hears, Report, Seen, fell, seen_messages}
 use Rattle.someipctl_io.specs.Inputs.{WasLeft}
 use Rattle.someipctl_io.specs.Outcomes.{fault_outcome}
 use Rattle.someipctl_io.specs.Sending.{Sends, Stops}

@@ -3,10 +3,8 @@ use Rattle.std.specs.Prelude.{ℕ, [], ◌∷◌}
 use Rattle.std.specs.declared.net.socket_addr.SocketAddrV4.{SocketAddrV4}
 use Rattle.someip_wire.specs.declared.Header.{Header}
 use Rattle.someip_wire.specs.declared.MessageType.TheVariants.{Request}
-use Rattle.someip_reassembly.specs.declared.ReassemblyKey.{ReassemblyKey}
 use Rattle.someip_tables.specs.declared.Deadline.TheVariants.{At}
 use Rattle.someip_tables.specs.declared.hashed.Origin.{Origin}
-use Rattle.audit_traffic.specs.declared.calls.AuditedCall.{AuditedCall}
 use Rattle.audit_traffic.specs.declared.calls.Unanswered.{Unanswered as UnansweredCall}
 use Rattle.audit_traffic.specs.declared.events.EventFlow.{EventFlow}
 use Rattle.audit_sd.specs.declared.offers.Expired.{Expired}
