@@ -1,4 +1,5 @@
-"""edges, scale: recordings at the limits of the reader, and larger than memory, through `recording -` and `audit -`.
+"""edges, scale: recordings at the limits of the reader, and larger than memory, through `recording -` and
+`audit --ports 30509 -`.
 
 `edges`, in seconds: a recording that comes a byte at a time, one whose reads are all interrupted once, both together;
 65,536 interfaces of a section and one more; a packet and a block of 16 MiB, and of one byte or word more.
@@ -135,6 +136,7 @@ def scale(odd):
 # ---- Runs
 
 def feed(pipe, pieces):
+    """Writes the pieces, as far as they are read."""
     try:
         for piece in pieces:
             pipe.write(piece)
@@ -143,23 +145,13 @@ def feed(pipe, pieces):
         pass
 
 
-def run(program, command, kilobytes, variables, pieces):
+def run(program, words, kilobytes, variables, pieces):
     def limit():
         resource.setrlimit(resource.RLIMIT_AS, (kilobytes * 1024, kilobytes * 1024))
 
-    child = subprocess.Popen([program, command, "-"], stdin=subprocess.PIPE, stdout=subprocess.PIPE,
-                             stderr=subprocess.PIPE, env=os.environ | variables, preexec_fn=limit, bufsize=0)
-    source = os.fdopen(child.stdin.fileno(), "wb", buffering=1 << 16, closefd=False)
-
-    def feed_all():
-        feed(source, pieces)
-        try:
-            source.close()
-        except BrokenPipeError:
-            pass
-        child.stdin.close()
-
-    feeder = threading.Thread(target=feed_all)
+    child = subprocess.Popen([program, *words], stdin=subprocess.PIPE, stdout=subprocess.PIPE, stderr=subprocess.PIPE,
+                             env=os.environ | variables, preexec_fn=limit, bufsize=0)
+    feeder = threading.Thread(target=feed, args=(child.stdin, pieces))
     feeder.start()
     out, err = child.stdout.read(), child.stderr.read()
     status = child.wait()
@@ -175,14 +167,14 @@ def main():
         source = os.path.join(os.path.dirname(os.path.abspath(__file__)), "odd_reads.c")
         subprocess.run(["cc", "-shared", "-fPIC", "-O1", source, "-o", odd, "-ldl"], check=True)
         for name, kilobytes, variables, pieces, told, reached in {"edges": edges, "scale": scale}[part](odd):
-            for command in ("recording", "audit"):
-                text = (LINE if reached else "") if command == "recording" else AUDITED.format(int(reached))
+            for words in (["recording", "-"], ["audit", "--ports", "30509", "-"]):
+                text = (LINE if reached else "") if words[0] == "recording" else AUDITED.format(int(reached))
                 status = 0 if reached else 1
-                came = run(program, command, kilobytes, variables, pieces())
+                came = run(program, words, kilobytes, variables, pieces())
                 cases += 1
                 if came != (text, told, status):
                     findings += 1
-                    print(f"{part}: {command}, {name}: expected {(text, told, status)}, got {came}")
+                    print(f"{part}: {words[0]}, {name}: expected {(text, told, status)}, got {came}")
     if findings == 0:
         print(f"{part}: {cases} cases, no finding")
     return findings > 0
