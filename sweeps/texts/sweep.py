@@ -20,7 +20,7 @@ from payloads import FAULTS, TAGGED_FAULTS, bad_shapes, deep_shapes
 from schedule_rows import schedules
 from setups import setups
 from types_files import types
-from words import HELP, USAGE
+from words import HELP, USAGE, values
 
 SETUP = Path(__file__).resolve().parents[2] / "examples" / "runs" / "two.toml"
 
@@ -95,6 +95,10 @@ def is_usage(program, words, part):
     return (status, shown) == (2, "") and part in error
 
 
+def is_value(program, words, status, told):
+    return run(program, words.split("|")) == (status, "", told)
+
+
 PARTS = {
     "setup": (is_setup, setups()),
     "types file": (is_types, types()),
@@ -104,6 +108,7 @@ PARTS = {
     "payload": (is_fault, (*FAULTS, *TAGGED_FAULTS)),
     "help": (is_help, HELP),
     "usage": (is_usage, USAGE),
+    "value": (is_value, tuple(values())),
 }
 
 

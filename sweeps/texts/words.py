@@ -1,4 +1,4 @@
-"""Words that come to no command: the help that is printed, or the fault of usage that is told."""
+"""Words that come to no command: the help that is printed, or the fault of usage that is told; and values of options."""
 
 # Words with `|` between them, of which the first is the name of the program; and a part of the text.
 HELP = (
@@ -35,3 +35,46 @@ USAGE = (
     ("someipctl|show|-x", "error: unexpected argument '-x' found\n"),
     ("someipctl|show|--all|x", "error: unexpected argument '--all' found\n"),
 )
+
+# Options with a number: the words before them, the option and its value's name, its range, and the usage that is told.
+RECORDING = "Usage: someipctl recording [OPTIONS] <FILE>"
+AUDIT = "Usage: someipctl audit [OPTIONS] <RECORDING>"
+NUMBERS = (
+    ("recording|--whole", "--whole-limit", "N", 1400, 1048576, RECORDING),
+    ("recording|--whole", "--whole-slots", "N", 1, 1024, RECORDING),
+    ("recording|--whole", "--whole-timeout", "MS", 1, 3600000, RECORDING),
+    ("audit", "--answer-ms", "N", 1, 4294967295, AUDIT),
+    ("audit", "--settle-ms", "N", 0, 4294967295, AUDIT),
+)
+# Values of `--ports` that are none.
+BAD_PORTS = ("0", "65536", "1,,2", ",1", "1,", "01", "+1", " 1", "1 ", "x", "1;2", "99999999999999999999")
+# Options of which two are bad, or one stands alone, and the one that is told.
+TOLD_FIRST = (
+    ("recording|--whole|--whole-timeout|0|--whole-slots|0|--whole-limit|0|missing",
+     "error: invalid value for '--whole-limit <N>': 1400 to 1048576", RECORDING),
+    ("recording|--whole|--whole-timeout|0|--whole-slots|0|missing",
+     "error: invalid value for '--whole-slots <N>': 1 to 1024", RECORDING),
+    ("audit|--settle-ms|x|--answer-ms|0|missing", "error: invalid value for '--answer-ms <N>': 1 to 4294967295", AUDIT),
+    ("recording|--whole-limit|1400|missing", "error: limits of whole messages need '--whole'", RECORDING),
+    ("recording|--whole-slots|1|missing", "error: limits of whole messages need '--whole'", RECORDING),
+    ("recording|--whole-timeout|1|missing", "error: limits of whole messages need '--whole'", RECORDING),
+)
+
+
+def values():
+    """Words, the status, and what is told on standard error."""
+    for words, option, name, least, most, usage in NUMBERS:
+        told = f"error: invalid value for '{option} <{name}>': {least} to {most}\n\n{usage}\n"
+        below = [str(least - 1)] if least else ["-1"]
+        for text in (*below, str(most + 1), f"0{most}", "", "+1", "x", str(2**64)):
+            yield f"{words}|{option}={text}|missing", 2, told
+        for number in (least, most):
+            yield f"{words}|{option}|{number}|missing", 4, "cannot read missing\n"
+    for command, usage in (("recording", RECORDING), ("audit", AUDIT)):
+        for text in BAD_PORTS:
+            yield (f"{command}|--ports|{text}|missing", 2, f"error: invalid value '{text}' for '--ports <PORTS>': "
+                   f"ports are numbers from 1 to 65535 with commas between them\n\n{usage}\n")
+        for text in ("1", "65535", "65535,1,1"):
+            yield f"{command}|--ports|{text}|missing", 4, "cannot read missing\n"
+    for words, told, usage in TOLD_FIRST:
+        yield words, 2, f"{told}\n\n{usage}\n"
