@@ -6,6 +6,7 @@ LINK = re.compile(r"!?\[(?:[^\[\]]|\[[^\]]*\])*\]\(\s*<?([^()\s<>]*(?:\([^()]*\)
 REFERENCE = re.compile(r"^ {0,3}\[[^\]]+\]:\s+<?([^\s>]+)>?")
 TAG = re.compile(r"<(?:img|a)\b[^>]*?\b(?:src|href)=\"([^\"]*)\"")
 ANCHOR = re.compile(r"<a\b[^>]*?\b(?:id|name)=\"([^\"]*)\"")
+SOURCE = re.compile(r"`([\w./-]*\w\.(?:antt|rt|edit))`")
 PAGE = re.compile(r"\bdocs/[\w./-]*\w\.(?:md|tsv|svg)\b")
 
 
@@ -52,11 +53,13 @@ def leads(page, target, known):
 
 
 def link_faults():
-    """What links of pages lead nowhere, and which pages the files name that are not there."""
+    """What links of pages lead nowhere, and which sources the pages and pages the files name that are not there."""
     known, faults = set(all_files()), []
     for page in sorted(path for path in known if path.endswith(".md")):
         for number, line in prose(page):
             plain = re.sub(r"(`+)(?:(?!\1).)*\1", lambda code: re.sub(r"[\[\]()<>]", "x", code[0]), line)
+            faults += [f"{page}:{number}: no file {name}" for name in SOURCE.findall(line)
+                       if not any(f"/{path}".endswith(f"/{name}") for path in known)]
             for target in LINK.findall(plain) + REFERENCE.findall(plain) + TAG.findall(plain):
                 why = leads(page, target, known)
                 if why:
