@@ -22,7 +22,7 @@ use Rattle.recording.proofs.BlockSpelling.{flat, plain_order}
 -- ---- the frame of a block
 
 -- the block at the front is whole, and the numbers have this order
-record IsWhole (o own : ByteOrder) (bytes : List ℕ) : Type 0 where
+pub record IsWhole (o own : ByteOrder) (bytes : List ℕ) : Type 0 where
   pub least : 12 ≤ length bytes
   pub order_is : block_order o (block_kind o bytes) bytes ≡ Some own
   pub total : 12 ≤ number32 own bytes 4
@@ -54,7 +54,7 @@ either : (short : Bool) (p : ℕ) (others : Option RecordingError) → option_or
 either true p others is = absurd cc
 either false p others is = absurd cc
 
-none_is_whole : (o : ByteOrder) (p : ℕ) (bytes : List ℕ) → block_fault o p bytes ≡ None → (own : ByteOrder) × IsWhole o own bytes
+pub none_is_whole : (o : ByteOrder) (p : ℕ) (bytes : List ℕ) → block_fault o p bytes ≡ None → (own : ByteOrder) × IsWhole o own bytes
 none_is_whole o p bytes h =
     let P : Option ByteOrder → Type 0 = λ q. block_order o (block_kind o bytes) bytes ≡ q → (own : ByteOrder) × IsWhole o own bytes in
     (elim (block_order o (block_kind o bytes) bytes) as P [

@@ -1,5 +1,5 @@
 -- What the front of bytes tells does not depend on what follows it.
-use Rattle.std.proofs.Common.{◌≡◌, ℕ, ◌+◌, ◌-◌, ◌%◌, ◌<◌, ◌≤◌, ◌⊎◌, Bool, true, false, cond, not, ◌&&◌, ltb, eqb, List, ◌++◌, length, take, drop, Option, Some, None, Ok, Err, refl, sym, ap, ◌∙◌, arith, inl, inr}
+use Rattle.std.proofs.Common.{◌≡◌, ◌≢◌, ℕ, ◌+◌, ◌-◌, ◌%◌, ◌<◌, ◌≤◌, ◌⊎◌, Bool, true, false, cond, not, ◌&&◌, ltb, eqb, List, ◌++◌, length, take, drop, Option, Some, None, Ok, Err, refl, sym, ap, ◌∙◌, arith, inl, inr}
 use Rattle.std.specs.Prelude.{slice_range, is_none, unwrap_or}
 use Rattle.std.specs.Int.{w32, from_be_bytes, from_le_bytes}
 use Rattle.std.proofs.lemmas.Bool.{le-ltb, lt-ltb, ltb-false}
@@ -296,22 +296,22 @@ many p interfaces given lt = ap (λ t. cond t (Err (TooManyInterfaces p)) (Ok gi
 
 -- a fault of the part is one of what is held
 fails-held : (e : RecordingError) (format : Format) (before : List Interface) (p : ℕ) (bytes : List ℕ) → is_too_long format bytes ≡ false
-    → Fails e (part_meaning format before p bytes) → Fails e (held_meaning format before p bytes)
-fails-held OutOfMemory format before p bytes short fails = tt
-fails-held (NotRecording q) format before p bytes short fails = held-meant format before p bytes (Err (NotRecording q)) short fails
-fails-held (Truncated q) format before p bytes short fails = held-meant format before p bytes (Err (Truncated q)) short fails
-fails-held (BadOrder q) format before p bytes short fails = held-meant format before p bytes (Err (BadOrder q)) short fails
-fails-held (BlockLength q) format before p bytes short fails = held-meant format before p bytes (Err (BlockLength q)) short fails
-fails-held (UnknownInterface q) format before p bytes short fails = held-meant format before p bytes (Err (UnknownInterface q)) short fails
-fails-held (BlockTooLong q) format before p bytes short fails = held-meant format before p bytes (Err (BlockTooLong q)) short fails
-fails-held (TooManyInterfaces q) format before p bytes short fails = held-meant format before p bytes (Err (TooManyInterfaces q)) short fails
+    → e ≢ OutOfMemory → Fails e (part_meaning format before p bytes) → Fails e (held_meaning format before p bytes)
+fails-held OutOfMemory format before p bytes short other fails = absurd (other refl)
+fails-held (NotRecording q) format before p bytes short other fails = held-meant format before p bytes (Err (NotRecording q)) short fails
+fails-held (Truncated q) format before p bytes short other fails = held-meant format before p bytes (Err (Truncated q)) short fails
+fails-held (BadOrder q) format before p bytes short other fails = held-meant format before p bytes (Err (BadOrder q)) short fails
+fails-held (BlockLength q) format before p bytes short other fails = held-meant format before p bytes (Err (BlockLength q)) short fails
+fails-held (UnknownInterface q) format before p bytes short other fails = held-meant format before p bytes (Err (UnknownInterface q)) short fails
+fails-held (BlockTooLong q) format before p bytes short other fails = held-meant format before p bytes (Err (BlockTooLong q)) short fails
+fails-held (TooManyInterfaces q) format before p bytes short other fails = held-meant format before p bytes (Err (TooManyInterfaces q)) short fails
 
 move : (e : RecordingError) (one other : Meaning) → other ≡ one → Fails e one → Fails e other
 move e one other is fails = rw is fails
 
 pub fails-same : (e : RecordingError) (format : Format) (before : List Interface) (p : ℕ) (held bytes : List ℕ) → IsSame format before p held bytes → is_too_long format held ≡ false
-    → Fails e (part_meaning format before p held) → Fails e (held_meaning format before p bytes)
-fails-same e format before p held bytes s short fails = fails-held e format before p bytes (s.long ∙ short) (move e _ _ s.meaning fails)
+    → e ≢ OutOfMemory → Fails e (part_meaning format before p held) → Fails e (held_meaning format before p bytes)
+fails-same e format before p held bytes s short other fails = fails-held e format before p bytes (s.long ∙ short) other (move e _ _ s.meaning fails)
 
 -- ---- the start of a file
 

@@ -14,6 +14,7 @@ pub mod ClassicSplit
 pub mod BlockSpelling
 pub mod PacketReading
 pub mod BlockSplit
+pub mod MemoryLemmas
 pub mod RecordingLemmas
 pub mod PacketSplit
 pub mod HeldSpelling

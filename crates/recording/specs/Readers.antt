@@ -1,5 +1,5 @@
 -- A recording that is read as it comes: what is seen of a reader, and what each call does to it.
-use Rattle.std.specs.Prelude.{◌≡◌, ⊤, ℕ, ◌+◌, ◌*◌, ◌<◌, ◌≤◌, Bool, true, false, List, [], ◌∷◌, ◌++◌, length, Option, Some, None, Ok}
+use Rattle.std.specs.Prelude.{◌≡◌, ⊤, ℕ, ◌+◌, ◌*◌, ◌<◌, ◌≤◌, Bool, true, false, List, [], ◌∷◌, ◌++◌, length, drop, Option, Some, None, Ok}
 use Rattle.std.specs.Io.KnownBytes.{Consumes, IsAtEnd}
 use Rattle.recording.specs.declared.format.Format.{Format}
 use Rattle.recording.specs.declared.interface.Interface.{Interface}
@@ -8,8 +8,8 @@ use Rattle.recording.specs.declared.stage.Stage.TheVariants.{Head, Inside, Over}
 use Rattle.recording.specs.declared.reader.Next.{Next}
 use Rattle.recording.specs.declared.reader.Next.TheVariants.{Record, Unread, End}
 use Rattle.recording.specs.Packets.{RecordValue}
-use Rattle.recording.specs.Records.{Item, format_of}
-use Rattle.recording.specs.Held.{held_limit, wanted, LacksBytes}
+use Rattle.recording.specs.Records.{Item, format_of, DescribesInterface}
+use Rattle.recording.specs.Held.{held_limit, interface_limit, wanted, LacksBytes}
 use Rattle.recording.specs.HeldItems.{held_from, held_behind}
 
 -- how many bytes one call reads at most
@@ -48,6 +48,17 @@ to_come r rest = items_by r.stage r.interfaces r.place (r.held ++ rest)
 abbrev pub CanFollow : Bool → List ℕ → Type 0
 CanFollow true rest = rest ≡ []
 CanFollow false rest = ⊤
+
+-- memory ran out for the description of an interface, where these bytes from place p of a recording on are held, the
+-- last or not, and this is left by those that follow them: the description stands among the bytes that are held, where
+-- the same is left, and one more interface may be held
+pub record LacksMemory (is_whole : Bool) (p : ℕ) (held : List ℕ) (left : List ℕ → List Item) : Type 0 where
+  pub format : Format
+  pub interfaces : List Interface
+  pub len : ℕ
+  pub describes : DescribesInterface format (p + len) (drop len held)
+  pub fewer : length interfaces < interface_limit
+  pub same : (rest : List ℕ) → CanFollow is_whole rest → left rest ≡ held_from format interfaces (p + len) (drop len held ++ rest)
 
 -- the same reader where a packet or a block begins
 abbrev pub inside : Format → ReaderValue → ReaderValue

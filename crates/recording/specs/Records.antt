@@ -1,5 +1,5 @@
 -- The records of a recording: those of its packets or blocks, one after the other, and the fault that ends them.
-use Rattle.std.specs.Prelude.{ℕ, zero, suc, ◌+◌, nat_lt, ◌==◌, if◌then◌else◌, List, [], ◌∷◌, length, drop, Option, Some, None, Result, Ok, Err}
+use Rattle.std.specs.Prelude.{◌≡◌, ℕ, zero, suc, ◌+◌, nat_lt, ◌==◌, if◌then◌else◌, List, [], ◌∷◌, length, drop, Option, Some, None, Result, Ok, Err}
 use Rattle.recording.specs.declared.error.RecordingError.{RecordingError}
 use Rattle.recording.specs.declared.error.RecordingError.TheVariants.{NotRecording}
 use Rattle.recording.specs.declared.number.ByteOrder.TheVariants.{Big}
@@ -11,7 +11,7 @@ use Rattle.recording.specs.Numbers.{number32}
 use Rattle.recording.specs.Packets.{RecordValue}
 use Rattle.recording.specs.Classic.{classic_in, packet_len, packet_fault, packet_record}
 use Rattle.recording.specs.Blocks.{block_len, block_fault, block_in, order_in}
-use Rattle.recording.specs.Sections.{Meaning, meaning_of, interfaces_after}
+use Rattle.recording.specs.Sections.{Meaning, IsDescription, meaning_of, interfaces_after}
 
 -- a record, or the fault that ends the recording
 abbrev pub Item : Type 0
@@ -44,6 +44,11 @@ format_after (Blocks order) bytes = Blocks (order_in order bytes)
 abbrev pub section_after : Format → List Interface → List ℕ → List Interface
 section_after (Classic c) interfaces bytes = interfaces
 section_after (Blocks order) interfaces bytes = interfaces_after interfaces (block_in order bytes)
+
+-- the bytes from place p of the file on begin with the description of an interface
+abbrev pub DescribesInterface : Format → ℕ → List ℕ → Type 0
+DescribesInterface (Classic c) p bytes = ⊥
+DescribesInterface (Blocks order) p bytes = (block_fault order p bytes ≡ None) × IsDescription (block_in order bytes)
 
 -- ---- all of them
 

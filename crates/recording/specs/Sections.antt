@@ -1,5 +1,5 @@
 -- What the blocks of a pcapng section say.
-use Rattle.std.specs.Prelude.{ℕ, ◌+◌, ◌-◌, ◌*◌, min, nat_lt, ◌==◌, if◌then◌else◌, List, [], ◌∷◌, ◌++◌, length, slice_get, slice_range, Option, Some, None, Result, Ok, Err}
+use Rattle.std.specs.Prelude.{◌≡◌, ◌≤◌, ℕ, ◌+◌, ◌-◌, ◌*◌, min, nat_lt, ◌==◌, if◌then◌else◌, List, [], ◌∷◌, ◌++◌, length, slice_get, slice_range, Option, Some, None, Result, Ok, Err}
 use Rattle.recording.specs.declared.error.RecordingError.{RecordingError}
 use Rattle.recording.specs.declared.error.RecordingError.TheVariants.{BlockLength, UnknownInterface}
 use Rattle.recording.specs.declared.block.BlockKind.{BlockKind}
@@ -65,6 +65,12 @@ simple_of p b (Some i) =
 -- one
 abbrev pub simple_record : List Interface → ℕ → BlockValue → Meaning
 simple_record interfaces p b = simple_of p b (slice_get interfaces 0)
+
+-- ---- the description of an interface
+
+-- the block describes an interface, with as many bytes as it must have
+abbrev pub IsDescription : BlockValue → Type 0
+IsDescription b = (b.kind ≡ kinds.Interface) × (least_body kinds.Interface ≤ length b.body)
 
 -- ---- all blocks
 

@@ -1,12 +1,13 @@
 //! The packets and the blocks that held bytes tell, one after the other.
 ghost use Rattle.std.specs.Prelude.{◌≡◌, ◌≤◌, ◌<◌, ◌+◌, ◌^◌, ◌++◌, ℕ, List, false, length, IfOk, IfErr};
 ghost use Rattle.std.specs.Prelude.{IfSome, IfNone};
-ghost use Rattle.recording.specs.Held.{held_meaning, wanted, LacksBytes};
+ghost use Rattle.recording.specs.Held.{held_meaning, interface_limit, wanted, LacksBytes};
+ghost use Rattle.recording.specs.Records.{DescribesInterface};
 ghost use Rattle.recording.specs.HeldItems.{held_from};
-ghost use Rattle.recording.specs.Readers.{CanFollow};
+ghost use Rattle.recording.specs.Readers.{CanFollow, LacksMemory};
 ghost use Rattle.recording.specs.Told.{IsPart, TakesTold, EndsTold};
 ghost use Rattle.recording.specs.View.{LiesIn};
-ghost use Rattle.recording.specs.Steps.{Fails, IsLast};
+ghost use Rattle.recording.specs.Steps.{Fails, IsLast, OnMemory};
 
 use crate::block::wanted_block;
 use crate::classic::wanted_packet;
@@ -51,6 +52,8 @@ pub(crate) fn next_told(
     ensures ends { IfOk result (λ told. IfNone told.packet (EndsTold is_whole held.now told)) }
     ensures fault { IfErr result (λ e. (rest : List ℕ) → CanFollow is_whole rest
         → IsLast e (held_from format interfaces.old.items place (held.now ++ rest))) }
+    ensures memory { IfErr result (λ e. OnMemory e (LacksMemory is_whole place held.now
+        (λ rest. held_from format interfaces.old.items place (held.now ++ rest)))) }
 {
     let mut len = 0;
     while len < held.len() {
@@ -95,6 +98,8 @@ fn held_part(
         (interfaces.new.items ≡ interfaces.old.items)) }
     ensures fault { IfErr result (λ e. (rest : List ℕ) → CanFollow is_whole rest
         → Fails e (held_meaning format interfaces.old.items place (held.now ++ rest))) }
+    ensures memory { IfErr result (λ e. OnMemory e (DescribesInterface format place held.now
+        × (length interfaces.old.items < interface_limit))) }
 {
     let wanted = wanted(format, held);
     if wanted > HELD_LEN {
@@ -103,11 +108,24 @@ fn held_part(
     if held.len() < wanted && !is_whole {
         return Ok(None);
     }
-    let part = front_part(format, interfaces, place, held)?;
-    if interfaces.len() > INTERFACES {
-        return Err(RecordingError::TooManyInterfaces(place));
+    match front_part(format, interfaces, place, held) {
+        Ok(part) => {
+            if interfaces.len() > INTERFACES {
+                return Err(RecordingError::TooManyInterfaces(place));
+            }
+            Ok(Some(part))
+        }
+        Err(fault) => match fault {
+            RecordingError::OutOfMemory => {
+                // One interface too many is a fault, whether there is memory for it or not.
+                if interfaces.len() >= INTERFACES {
+                    return Err(RecordingError::TooManyInterfaces(place));
+                }
+                Err(fault)
+            }
+            _ => Err(fault),
+        },
     }
-    Ok(Some(part))
 }
 
 /// How many bytes have to be held before the packet or block at the front is told.

@@ -1,9 +1,9 @@
 //! The packets and the blocks of a file, one after the other.
-ghost use Rattle.std.specs.Prelude.{◌≡◌, ◌≤◌, ◌<◌, Ok, length, drop, IfOk, IfErr, OnOk};
+ghost use Rattle.std.specs.Prelude.{◌≡◌, ◌≤◌, ◌<◌, Ok, length, drop, IfOk, IfErr, OnOk, OnErr};
 ghost use Rattle.recording.specs.Records.{part_meaning, part_len, format_after, section_after};
-ghost use Rattle.recording.specs.Records.{items_from};
+ghost use Rattle.recording.specs.Records.{items_from, DescribesInterface};
 ghost use Rattle.recording.specs.View.{given_in, LiesIn};
-ghost use Rattle.recording.specs.Steps.{Fails, IsLast};
+ghost use Rattle.recording.specs.Steps.{Fails, IsLast, OnMemory};
 ghost use Rattle.recording.specs.Parts.{IsFound};
 
 use crate::block::front_block;
@@ -80,6 +80,8 @@ pub(crate) fn front_part(
     ensures packet { IfOk result (λ part. LiesIn rest.now part.packet) }
     ensures err { IfErr result (λ e.
         Fails e (part_meaning format interfaces.old.items place rest.now)) }
+    ensures memory { IfErr result (λ e. OnMemory e (DescribesInterface format place rest.now)) }
+    ensures kept { OnErr result (interfaces.new.items ≡ interfaces.old.items) }
     ensures format { IfOk result (λ part. part.format ≡ format_after format rest.now) }
     ensures interfaces { OnOk result (interfaces.new.items
         ≡ section_after format interfaces.old.items rest.now) }

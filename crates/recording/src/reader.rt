@@ -5,8 +5,9 @@ ghost use Rattle.std.specs.Io.{ReadsAtMost};
 ghost use Rattle.std.specs.Io.KnownBytes.{Keeps, Consumes, IsAtEnd};
 ghost use Rattle.recording.specs.declared.stage.Stage.TheVariants.{Head};
 ghost use Rattle.recording.specs.Readers.{inside, to_come, memory_limit, CanFollow, IsNext, IsAfterRead};
+ghost use Rattle.recording.specs.Readers.{LacksMemory};
 ghost use Rattle.recording.specs.View.{view_record};
-ghost use Rattle.recording.specs.Steps.{IsLast};
+ghost use Rattle.recording.specs.Steps.{IsLast, OnMemory};
 
 use crate::classic::HEADER_LEN;
 use crate::error::RecordingError;
@@ -129,6 +130,9 @@ impl RecordingReader {
         // A fault is all that was to come.
         ensures fault { IfErr result (λ e. (rest : List ℕ) → CanFollow self.old.is_whole rest
             → IsLast e (to_come self.old rest)) }
+        // Out of memory is for the description of an interface, which is held and may be.
+        ensures memory { IfErr result (λ e. OnMemory e (LacksMemory self.old.is_whole self.old.place
+            self.old.held (to_come self.old))) }
         // Then nothing is to come.
         ensures ended { OnErr result ((rest : List ℕ) → to_come self.new rest ≡ []) }
         // And it has no record.
@@ -163,6 +167,8 @@ impl RecordingReader {
         ensures next { IfOk result (IsNext self.old self.new) }
         ensures fault { IfErr result (λ e. (rest : List ℕ) → CanFollow self.old.is_whole rest
             → IsLast e (to_come self.old rest)) }
+        ensures memory { IfErr result (λ e. OnMemory e (LacksMemory self.old.is_whole self.old.place
+            self.old.held (to_come self.old))) }
         ensures none { OnErr result (self.new.current ≡ None) }
         ensures whole { self.new.is_whole ≡ self.old.is_whole }
         ensures kept { self.new.taken + length self.new.held ≡ self.old.taken + length self.old.held }
@@ -185,6 +191,8 @@ impl RecordingReader {
         ensures next { IfOk result (IsNext (inside format self.old) self.new) }
         ensures fault { IfErr result (λ e. (rest : List ℕ) → CanFollow self.old.is_whole rest
             → IsLast e (to_come (inside format self.old) rest)) }
+        ensures memory { IfErr result (λ e. OnMemory e (LacksMemory self.old.is_whole self.old.place
+            self.old.held (to_come (inside format self.old)))) }
         ensures none { OnErr result (self.new.current ≡ None) }
         ensures whole { self.new.is_whole ≡ self.old.is_whole }
         ensures kept { self.new.taken + length self.new.held ≡ self.old.taken + length self.old.held }

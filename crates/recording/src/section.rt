@@ -1,9 +1,10 @@
 //! What the blocks of a pcapng section say.
-ghost use Rattle.std.specs.Prelude.{◌≡◌, ◌≤◌, ◌+◌, Some, None, Ok, Err, length, IfOk, IfErr, OnOk};
+ghost use Rattle.std.specs.Prelude.{◌≡◌, ◌≤◌, ◌+◌, Some, None, Ok, Err, length, IfOk, IfErr, OnOk, OnErr};
 ghost use Rattle.recording.specs.Sections.{meaning_of, interfaces_after, least_body, simple_record};
+ghost use Rattle.recording.specs.Sections.{IsDescription};
 ghost use Rattle.recording.specs.Sections.{timed_record, block_time, captured_len};
 ghost use Rattle.recording.specs.View.{view_block, given_in, LiesIn};
-ghost use Rattle.recording.specs.Steps.{Fails};
+ghost use Rattle.recording.specs.Steps.{Fails, OnMemory};
 
 use crate::block::{Block, BlockKind};
 use crate::error::RecordingError;
@@ -26,6 +27,8 @@ pub(crate) fn take_block(
         (interfaces.new.items ≡ interfaces_after interfaces.old.items (view_block block.now)) }
     ensures err { IfErr result (λ e.
         Fails e (meaning_of interfaces.old.items place (view_block block.now))) }
+    ensures memory { IfErr result (λ e. OnMemory e (IsDescription (view_block block.now))) }
+    ensures kept { OnErr result (interfaces.new.items ≡ interfaces.old.items) }
 {
     if block.body.len() < least_body(block.kind) {
         return Err(RecordingError::BlockLength(place));

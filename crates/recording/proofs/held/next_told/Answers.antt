@@ -7,6 +7,7 @@ use Rattle.recording.specs.View.{given_in, packet_behind, LiesIn}
 use Rattle.recording.specs.Records.{items_after}
 use Rattle.recording.specs.HeldItems.{held_from}
 use Rattle.recording.proofs.HeldLemmas.{held_on, fails_alone}
+use Rattle.recording.proofs.MemoryLemmas.{on_memory}
 use Rattle.recording.proofs.held.next_told.Goals as goal
 
 pub returns-in_err-part-clause-fault : goal.returns-in_err-part-clause-fault
@@ -20,6 +21,22 @@ returns-in_err-part-clause-fault c =
     (omega (arith, length-append (drop len held) rest, length-drop len held, lt))
     (c.loop-len.invariant.0 rest follows ∙ ap (λ (bytes : List ℕ). held_from c.loop-len.format c.loop-len.interfaces.items (c.args.place + len) bytes) (drop-append-le len held rest (omega (arith, lt))))
     ((rw take_rest at c.in_err-part.ensures.fault) rest follows))
+
+pub returns-in_err-part-clause-memory : goal.returns-in_err-part-clause-memory
+returns-in_err-part-clause-memory c =
+    let p = err_from_is_err_and c.from_residual.result c.from_residual.ensures.1 in
+    let held = c.args.held.now in
+    let len = c.loop-len.len in
+    let le : len ≤ length held = omega (arith, c.loop-len-test.true) in
+    rw (p.1, p.2) (on_memory c.in_err-part.field-0.0 _ _ (rw take_rest at c.in_err-part.ensures.memory) (λ m. record {
+      format = c.loop-len.format;
+      interfaces = c.loop-len.interfaces.items;
+      len = len;
+      describes = m.0;
+      fewer = m.1;
+      same = λ rest follows. c.loop-len.invariant.0 rest follows
+          ∙ ap (λ (bytes : List ℕ). held_from c.loop-len.format c.loop-len.interfaces.items (c.args.place + len) bytes) (drop-append-le len held rest le);
+    }))
 
 pub returns-in-Some-packet-clause-takes : goal.returns-in-Some-packet-clause-takes
 returns-in-Some-packet-clause-takes c = λ rest follows.

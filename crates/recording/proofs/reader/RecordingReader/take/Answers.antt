@@ -1,6 +1,7 @@
 use Rattle.std.proofs.Common.{arith, ◌≡◌, ◌∙◌, ◌≤◌, ◌<◌, [], true, false, ap, length, drop, Option, None}
 use Rattle.std.specs.Prelude.{option_map}
 use Rattle.std.proofs.lemmas.List.{take_rest}
+use Rattle.std.proofs.lemmas.Result.{err_from_is_err_and}
 use Rattle.recording.specs.declared.packet.Packet.{Packet}
 use Rattle.recording.specs.View.{record_at, packet_behind, LiesIn}
 use Rattle.recording.specs.Told.{EndsTold}
@@ -47,3 +48,8 @@ returns-clause-next c =
             ap (λ (k : Option Packet). option_map (record_at bytes) k) (c.behind-self-inside.ensures ∙ ap (option_map (packet_behind start)) w.in-None.is),
           )
     ]
+
+pub returns-in_err-told-clause-memory : goal.returns-in_err-told-clause-memory
+returns-in_err-told-clause-memory c =
+    let p = err_from_is_err_and c.from_residual.result c.from_residual.ensures.1 in
+    rw (p.1, p.2, ← c.self.view_is) (rw (c.deref.ensures.value, take_rest) at c.in_err-told.ensures.memory)
