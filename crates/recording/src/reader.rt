@@ -1,7 +1,9 @@
 //! A recording that is read as it comes.
-ghost use Rattle.std.specs.Prelude.{◌≡◌, ◌≤◌, ◌<◌, ◌+◌, ◌-◌, ◌^◌, ◌++◌, drop, ℕ, List, [], false, None, length, take};
+ghost use Rattle.std.specs.Prelude.{◌≡◌, ◌≢◌, ◌≤◌, ◌<◌, ◌+◌, ◌-◌, ◌^◌, ◌++◌, drop, ℕ, List, [], false, None, length, take};
 ghost use Rattle.std.specs.Prelude.{IfOk, IfErr, OnOk, OnErr, option_map};
 ghost use Rattle.std.specs.Io.{ReadsAtMost};
+ghost use Rattle.std.specs.IoError.{error_kind};
+ghost use Rattle.std.specs.declared.io.ErrorKind.TheVariants.{Interrupted};
 ghost use Rattle.std.specs.Io.KnownBytes.{Keeps, Consumes, IsAtEnd};
 ghost use Rattle.recording.specs.declared.stage.Stage.TheVariants.{Head};
 ghost use Rattle.recording.specs.Readers.{inside, to_come, memory_limit, CanFollow, IsNext, IsAfterRead};
@@ -242,6 +244,8 @@ impl RecordingReader {
         // What was read is held after what was, and nothing else changed.
         ensures read { OnOk result
             (IsAfterRead self.old self.new (R.remaining reader.old) (R.remaining reader.new)) }
+        // A read that a signal interrupts is asked again, and no error.
+        ensures asked { IfErr result (λ e. error_kind e ≢ Interrupted) }
         // Nothing was read, and nothing else is to come.
         ensures unread { OnErr result (Keeps (R.remaining reader.old) (R.remaining reader.new)) }
         ensures same { OnErr result ((rest : List ℕ) → to_come self.new rest ≡ to_come self.old rest) }
@@ -301,6 +305,7 @@ fn append_read<R: Read>(reader: &mut R, bytes: &mut Vec<u8>) -> io::Result<usize
     ensures end { IfOk result (λ n. n ≡ 0 → IsAtEnd (R.remaining reader.new)) }
     ensures unread { OnErr result (Keeps (R.remaining reader.old) (R.remaining reader.new)) }
     ensures same { OnErr result (bytes.new.items ≡ bytes.old.items) }
+    ensures asked { IfErr result (λ e. error_kind e ≢ Interrupted) }
 {
     let held = bytes.len();
     bytes.resize(held + ROOM, 0)?;
@@ -323,6 +328,7 @@ fn read_behind<R: Read>(reader: &mut R, bytes: &mut [u8], held: usize) -> io::Re
     ensures end { IfOk result (λ n. n ≡ 0 → held < length bytes.old
         → IsAtEnd (R.remaining reader.new)) }
     ensures unread { OnErr result (Keeps (R.remaining reader.old) (R.remaining reader.new)) }
+    ensures asked { IfErr result (λ e. error_kind e ≢ Interrupted) }
 {
     read_once(reader, &mut bytes[held..])
 }
@@ -335,6 +341,7 @@ fn read_once<R: Read>(reader: &mut R, room: &mut [u8]) -> io::Result<usize>
     ensures end { IfOk result (λ n. n ≡ 0 → 0 < length room.old
         → IsAtEnd (R.remaining reader.new)) }
     ensures unread { OnErr result (Keeps (R.remaining reader.old) (R.remaining reader.new)) }
+    ensures asked { IfErr result (λ e. error_kind e ≢ Interrupted) }
 {
     for _ in 0..u64::MAX {
         match reader.read(room) {
