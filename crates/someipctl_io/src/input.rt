@@ -1,8 +1,10 @@
 //! Reading an input whole.
-ghost use Rattle.std.specs.Prelude.{IfOk};
-ghost use Rattle.someipctl_io.specs.Inputs.{WasLeft};
+ghost use Rattle.std.specs.Prelude.{◌≡◌, IfOk};
+ghost use Rattle.std.specs.IoError.{error_kind};
+ghost use Rattle.someipctl_io.specs.Inputs.{WasLeft, read_fault};
 
 use std::alloc::Global;
+use std::io;
 use std::io::{ErrorKind, Read};
 use thiserror::Error;
 
@@ -17,6 +19,23 @@ pub enum ReadFault {
     OutOfMemory,
 }
 
+impl ReadFault {
+    /// What an error of a read is told as.
+    ///
+    /// ```text
+    /// OutOfMemory    out of memory
+    /// any other      cannot read
+    /// ```
+    pub fn of(error: &io::Error) -> ReadFault
+        ensures { result ≡ read_fault (error_kind error.now) }
+    {
+        match error.kind() {
+            ErrorKind::OutOfMemory => ReadFault::OutOfMemory,
+            _ => ReadFault::CannotRead,
+        }
+    }
+}
+
 /// All that the reader has left.
 pub fn read_all<R: Read>(alloc: Global, reader: &mut R) -> Result<Vec<u8>, ReadFault>
     ensures { IfOk result (λ bytes. WasLeft (R.remaining reader.old) bytes.items) }
@@ -24,9 +43,6 @@ pub fn read_all<R: Read>(alloc: Global, reader: &mut R) -> Result<Vec<u8>, ReadF
     let mut bytes = Vec::new(alloc);
     match reader.read_to_end(&mut bytes) {
         Ok(_) => Ok(bytes),
-        Err(error) => match error.kind() {
-            ErrorKind::OutOfMemory => Err(ReadFault::OutOfMemory),
-            _ => Err(ReadFault::CannotRead),
-        },
+        Err(error) => Err(ReadFault::of(&error)),
     }
 }
