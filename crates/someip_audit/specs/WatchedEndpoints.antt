@@ -1,5 +1,5 @@
 -- At which ports and endpoints datagrams are looked at.
-use Rattle.std.specs.Prelude.{ℕ, ◌==◌, nat_lt, Bool, true, ◌||◌, if◌then◌else◌, List, Option, None, Some, is_some, refl}
+use Rattle.std.specs.Prelude.{ℕ, ◌==◌, nat_lt, Bool, true, not, ◌&&◌, ◌||◌, if◌then◌else◌, List, Option, None, Some, is_some, refl}
 use Rattle.std.specs.List.{list_any}
 use Rattle.std.specs.Coded.{Coded, code_by, coded×, coded_ℕ, coded_bool, coded_list, coded_option}
 use base.Stored.{coded_unit}
@@ -66,6 +66,10 @@ once_named endpoint watched =
     if is_passed_over endpoint watched then watched
     else if nat_lt (finite.len watched.learnt) watched.limit then record watched { learnt = finite.insert watched.learnt endpoint tt }
     else record watched { told_full = true }
+
+-- memory is taken for it: it is learnt
+abbrev pub needs_memory : SocketAddrV4 → Watch → Bool
+needs_memory endpoint watched = not (is_passed_over endpoint watched) && nat_lt (finite.len watched.learnt) watched.limit
 
 -- ---- codes, by which a proof tells values apart
 

@@ -4,7 +4,7 @@ ghost use Rattle.std.specs.FinMap as finite;
 ghost use Rattle.someip_tables.specs.Endpoints.{endpoint_cmp};
 ghost use Rattle.someip_tables.specs.Tables.{map_of};
 ghost use Rattle.someip_audit.specs.WatchedEndpoints.{is_asked, is_at_discovery, is_looked_at};
-ghost use Rattle.someip_audit.specs.WatchedEndpoints.{is_passed_over, once_named, told_of_endpoint};
+ghost use Rattle.someip_audit.specs.WatchedEndpoints.{is_passed_over, needs_memory, once_named, told_of_endpoint};
 
 use crate::finding::Finding;
 use someip_tables::hashed::{KeySet, Origin, Room};
@@ -94,6 +94,7 @@ impl Watched {
         ensures told { IfOk result (λ told. told ≡ told_of_endpoint endpoint self.old) }
         ensures after { IfOk result (λ told. self.new ≡ once_named endpoint self.old) }
         ensures err { OnErr result (self.new ≡ self.old) }
+        ensures grows { OnErr result (needs_memory endpoint self.old ≡ true) }
     {
         if self.passes_over(&endpoint) {
             return Ok(None);
