@@ -1,5 +1,5 @@
 -- What comes of a recording, step by step.
-use Rattle.std.proofs.Common.{◌≡◌, ℕ, Bool, true, false, List, [], ◌∷◌, ◌++◌, Option, Some, None, Ok, refl, sym, ap, subst, ◌∙◌, append_assoc}
+use Rattle.std.proofs.Common.{◌≡◌, ℕ, Bool, true, false, List, [], ◌∷◌, ◌++◌, Option, Some, None, Ok, refl, sym, ap, subst, ◌∙◌, append_assoc, inl}
 use Rattle.std.specs.Io.KnownBytes.{Consumes, IsAtEnd}
 use Rattle.std.proofs.lemmas.List.{append-nil}
 use Rattle.recording.specs.declared.Next.TheVariants as next
@@ -9,7 +9,11 @@ use Rattle.recording.specs.Records.{Item}
 use Rattle.recording.specs.HeldItems.{held_of}
 use Rattle.recording.specs.Readers.{ReaderValue, CanFollow, IsNext, IsAfterRead, items_by, to_come}
 use Rattle.someipctl_io.specs.Inputs.{WasLeft}
-use Rattle.someipctl_recordings.specs.Coming.{Comes, EndsAt, coming_items}
+use Rattle.someipctl_io.specs.declared.Fault.{Fault}
+use Rattle.someipctl_io.specs.declared.ReadFault.{ReadFault}
+use Rattle.someipctl_io.specs.declared.ReadFault.TheVariants as reads
+use Rattle.someipctl_io.specs.Faults.{fault_of_read}
+use Rattle.someipctl_recordings.specs.Coming.{Comes, EndsAt, IsStopped, MayStop, WantsBytes, coming_items}
 use Rattle.someipctl_recordings.specs.declared.read_loop.Coming.{Coming}
 use Rattle.someipctl_recordings.specs.declared.read_loop.Coming.TheVariants.{Record}
 
@@ -100,6 +104,23 @@ comes_read b c were are r = record {
   came = λ rest f. left_read b c r.bytes rest r.is;
   at_end = ends_read b.is_whole c.is_whole were are r.bytes r.consumed r.whole r.end;
 }
+
+-- ---- errors of the machine
+
+-- where the next item is not known more bytes are wanted, and such an error may come
+pub stopped : {R : Type 0} (fault : Fault R) (a b c : ReaderValue) (k l : Option (List ℕ)) → Comes a b k l [] → IsNext b c next.Unread → c.is_whole ≡ b.is_whole
+    → (WantsBytes c → MayStop fault c) → IsStopped a k fault
+stopped fault a b c k l came is whole may = record {
+  reader = c;
+  are = l;
+  came = comes_both a b c k l l [] [] came (comes_unread b c l is whole);
+  may = may (whole ∙ is.0, is.1);
+}
+
+-- an error of a read is one of the machine, of either kind
+pub read_may : (R : Type 0) (why : ReadFault) (r : ReaderValue) → WantsBytes r → MayStop {R = R} (fault_of_read why) r
+read_may R reads.CannotRead r wants = wants
+read_may R reads.OutOfMemory r wants = inl wants
 
 -- ---- the file
 

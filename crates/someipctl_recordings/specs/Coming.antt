@@ -1,9 +1,12 @@
 -- What comes of a recording that is read as it is shown.
-use Rattle.std.specs.Prelude.{◌≡◌, ⊤, ℕ, ◌^◌, ◌<◌, true, List, [], ◌∷◌, ◌++◌, Option, Some, None, Ok, Err}
+use Rattle.std.specs.Prelude.{◌≡◌, ◌⊎◌, ⊤, ℕ, ◌^◌, ◌<◌, true, false, List, [], ◌∷◌, ◌++◌, Option, Some, None, Ok, Err}
 use Rattle.std.specs.Io.KnownBytes.{Consumes, IsAtEnd}
 use Rattle.recording.specs.Packets.{RecordValue}
 use Rattle.recording.specs.Records.{Item}
-use Rattle.recording.specs.Readers.{ReaderValue, CanFollow, to_come}
+use Rattle.recording.specs.Held.{LacksBytes}
+use Rattle.recording.specs.Readers.{ReaderValue, CanFollow, LacksMemory, to_come, wanted_by}
+use Rattle.someipctl_io.specs.declared.Fault as declared_fault
+use Rattle.someipctl_io.specs.declared.Fault.TheVariants as faults
 use Rattle.someipctl_recordings.specs.declared.read_loop.Coming.{Coming}
 use Rattle.someipctl_recordings.specs.declared.read_loop.Coming.TheVariants.{Record, Fault, End}
 
@@ -40,3 +43,24 @@ abbrev pub IsFurther : Coming → ℕ → ℕ → Type 0
 IsFurther Record before after = (before < after) × (after < 2 ^ 64)
 IsFurther (Fault fault) before after = ⊤
 IsFurther End before after = ⊤
+
+-- ---- where an error of the machine comes
+
+-- a reader tells nothing of the bytes that it holds before it has more, and more may come
+abbrev pub WantsBytes : ReaderValue → Type 0
+WantsBytes r = (r.is_whole ≡ false) × LacksBytes r.held (wanted_by r.stage r.held)
+
+-- an error of the machine may come of such a reader: more bytes are wanted, which are read after what was printed is
+-- written; or memory for the description of one more interface
+abbrev pub MayStop : {R : Type 0} → declared_fault.Fault R → ReaderValue → Type 0
+MayStop (faults.Refused refusal) r = ⊥
+MayStop faults.CannotRead r = WantsBytes r
+MayStop faults.CannotWrite r = WantsBytes r
+MayStop faults.OutOfMemory r = WantsBytes r ⊎ LacksMemory r.is_whole r.place r.held (to_come r)
+
+-- the error came after some bytes were read that told no item
+pub record IsStopped {R : Type 0} (before : ReaderValue) (were : Option (List ℕ)) (fault : declared_fault.Fault R) : Type 0 where
+  pub reader : ReaderValue
+  pub are : Option (List ℕ)
+  pub came : Comes before reader were are []
+  pub may : MayStop fault reader

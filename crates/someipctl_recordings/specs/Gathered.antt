@@ -1,5 +1,5 @@
 -- Messages that are put together from the segments of a recording (SOME/IP Protocol, "SOME/IP-TP", reassembly).
-use Rattle.std.specs.Prelude.{⊤, ℕ, ◌==◌, ◌||◌, Bool, not, if◌then◌else◌, List, Option, Some, None, option_map, Result, Ok, Err}
+use Rattle.std.specs.Prelude.{⊤, ℕ, ◌==◌, ◌||◌, Bool, false, not, is_ok, if◌then◌else◌, List, Option, Some, None, option_map, Result, Ok, Err}
 use Rattle.std.specs.declared.net.socket_addr.SocketAddrV4.{SocketAddrV4}
 use Rattle.someip_wire.specs.declared.Header.{Header}
 use Rattle.someip_wire.specs.declared.WireError.{WireError}
@@ -91,6 +91,21 @@ told_of (Some s) now d item = told_of_item s now d item
 abbrev pub store_after : Option StoreValue → ℕ → DatagramValue → Result MessageValue WireError → Option StoreValue
 store_after None now d item = None
 store_after (Some s) now d item = Some (store_after_item s now d item)
+
+-- ---- where memory is taken
+
+-- a segment is accepted: memory is taken for no other, and for no other item
+abbrev pub is_accepted_offer : StoreValue → ℕ → Option SegmentOffer → Bool
+is_accepted_offer s now None = false
+is_accepted_offer s now (Some o) = is_ok (judgement s.limits now o s.parts)
+
+abbrev pub is_accepted_item : StoreValue → ℕ → DatagramValue → Result MessageValue WireError → Bool
+is_accepted_item s now d (Ok m) = is_accepted_offer s now (segment_of d m)
+is_accepted_item s now d (Err fault) = false
+
+abbrev pub is_accepted : Option StoreValue → ℕ → DatagramValue → Result MessageValue WireError → Bool
+is_accepted None now d item = false
+is_accepted (Some s) now d item = is_accepted_item s now d item
 
 -- ---- the program's values
 

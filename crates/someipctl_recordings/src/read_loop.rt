@@ -1,13 +1,16 @@
 //! What comes next of a recording, as it is read.
-ghost use Rattle.std.specs.Prelude.{◌<◌, [], OnOk, OnErr, IfOk};
+ghost use Rattle.std.specs.Prelude.{◌≡◌, ◌<◌, [], OnOk, OnErr, IfOk, IfErr};
+ghost use Rattle.std.specs.IoError.{error_kind};
+ghost use Rattle.someipctl_io.specs.Faults.{fault_of_read};
+ghost use Rattle.someipctl_io.specs.Inputs.{read_fault};
 ghost use Rattle.someipctl_io.specs.Sending.{Sends, Stops};
-ghost use Rattle.someipctl_recordings.specs.Coming.{Comes, IsEnded, IsFurther, coming_items};
+ghost use Rattle.someipctl_recordings.specs.Coming.{Comes, IsEnded, IsFurther, IsStopped, coming_items};
 
 use recording::{Next, RecordingError, RecordingReader};
-use someipctl_io::{Buffer, Fault};
+use someipctl_io::{Buffer, Fault, ReadFault};
 use std::convert::Infallible;
 use std::io;
-use std::io::{ErrorKind, Read, Write};
+use std::io::{Read, Write};
 
 /// What comes next of a recording.
 #[derive(Clone, Copy)]
@@ -35,6 +38,8 @@ pub fn next_coming<R: Read, W: Write>(
     ensures further { IfOk result (λ coming.
         IsFurther coming recording.old.place recording.new.place) }
     ensures ended { IfOk result (λ coming. IsEnded coming recording.new) }
+    // No error stands for what the bytes that are held tell: neither for an item nor for a fault.
+    ensures machine { IfErr result (λ fault. IsStopped recording.old (R.remaining source.old) fault) }
     ensures sends { OnOk result (Sends (W.contents writer.old) buffer.old (W.contents writer.new)
         buffer.new []) }
     ensures stops { OnErr result (Stops (W.contents writer.old) buffer.old (W.contents writer.new) []) }
@@ -56,9 +61,8 @@ pub fn next_coming<R: Read, W: Write>(
 }
 
 /// Why a recording could not be read on.
-fn fault_of_read(error: &io::Error) -> Fault<Infallible> {
-    match error.kind() {
-        ErrorKind::OutOfMemory => Fault::OutOfMemory,
-        _ => Fault::CannotRead,
-    }
+fn fault_of_read(error: &io::Error) -> Fault<Infallible>
+    ensures { result ≡ fault_of_read (read_fault (error_kind error.now)) }
+{
+    Fault::from(ReadFault::of(error))
 }

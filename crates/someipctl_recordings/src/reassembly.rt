@@ -9,7 +9,8 @@ ghost use Rattle.someip_reassembly.specs.Parts.{NoneAfter};
 ghost use Rattle.someip_reassembly.specs.SegmentOffers.{judgement, message_at, parts_after, parts_less};
 ghost use Rattle.someipctl_recordings.specs.Gathered.{IsInTime, is_at_discovery, piece_offer, segment_of, socket_of};
 ghost use Rattle.someipctl_recordings.specs.Gathered.{store_after, store_by, told_of, view_store, view_told};
-ghost use Rattle.someipctl_recordings.specs.Gathered.{store_after_offer, told_of_offer, told_by};
+ghost use Rattle.someipctl_recordings.specs.Gathered.{is_accepted, is_accepted_offer, store_after_offer};
+ghost use Rattle.someipctl_recordings.specs.Gathered.{told_of_offer, told_by};
 
 use recording::{Datagram, Endpoint};
 use someip_reassembly::{Offered, Reassembly, ReassemblyKey, TpError, read_segment};
@@ -54,6 +55,8 @@ pub(crate) fn tell_item<S: Reassembly>(
     requires in_time { IsInTime S.parts now store.old }
     ensures told { IfOk result (λ told. view_told told bytes.new.items
         ≡ told_of (view_store S.limits S.parts store.old) now (view_datagram datagram.now) (view_item item.now)) }
+    ensures wanting { OnErr result (is_accepted (view_store S.limits S.parts store.old) now
+        (view_datagram datagram.now) (view_item item.now) ≡ true) }
     ensures store { OnOk result (view_store S.limits S.parts store.new
         ≡ store_after (view_store S.limits S.parts store.old) now (view_datagram datagram.now) (view_item item.now)) }
     ensures in_time { IsInTime S.parts now store.new }
@@ -79,6 +82,8 @@ fn tell_message<S: Reassembly>(
     ensures told { IfOk result (λ told. view_told told bytes.new.items
         ≡ told_of_offer (store_by S.limits S.parts store.old) now message.now.header
         (segment_of (view_datagram datagram.now) (view message.now))) }
+    ensures wanting { OnErr result (is_accepted_offer (store_by S.limits S.parts store.old) now
+        (segment_of (view_datagram datagram.now) (view message.now)) ≡ true) }
     ensures store { OnOk result (store_by S.limits S.parts store.new
         ≡ store_after_offer (store_by S.limits S.parts store.old) now
         (segment_of (view_datagram datagram.now) (view message.now))) }
@@ -115,6 +120,8 @@ fn tell_piece<S: Reassembly>(
     requires in_time { NoneAfter now (S.parts store.old) }
     ensures told { IfOk result (λ told. view_told told bytes.new.items
         ≡ told_of_offer (store_by S.limits S.parts store.old) now header.now (Some (piece_offer piece.entry))) }
+    ensures wanting { OnErr result (is_accepted_offer (store_by S.limits S.parts store.old) now
+        (Some (piece_offer piece.entry)) ≡ true) }
     ensures store { OnOk result (store_by S.limits S.parts store.new
         ≡ store_after_offer (store_by S.limits S.parts store.old) now (Some (piece_offer piece.entry))) }
     ensures in_time { NoneAfter now (S.parts store.new) }

@@ -1,5 +1,5 @@
 -- What an audit counts, step by step.
-use Rattle.std.specs.Prelude.{◌≡◌, ℕ, ◌+◌, List, length, slice_index, slice_set, Option, None, Some}
+use Rattle.std.specs.Prelude.{◌≡◌, ℕ, ◌+◌, max, List, length, slice_index, slice_set, Option, None, Some}
 use Rattle.std.specs.List.{flat_map}
 use Rattle.someip_audit.specs.Audits.{Report}
 use Rattle.someipctl_recordings.specs.declared.audit.kind.Kind.{Kind}
@@ -15,6 +15,14 @@ tally_after kind t = record t { findings = t.findings + 1; kinds = slice_set t.k
 abbrev pub tally_looked : Option ℕ → Tally → Tally
 tally_looked None t = t
 tally_looked (Some n) t = record t { datagrams = t.datagrams + 1; messages = t.messages + n }
+
+-- the greatest number after that: of the findings, and of those of the kind; of the datagrams, and of their messages
+abbrev pub most_told : Kind → Tally → ℕ
+most_told kind t = max (t.findings + 1) (slice_index t.kinds (kind_number kind) + 1)
+
+abbrev pub most_looked : Option ℕ → Tally → ℕ
+most_looked None t = 0
+most_looked (Some n) t = max (t.datagrams + 1) (t.messages + n)
 
 -- these reports and datagrams were counted
 pub record Counts (t : Tally) (reports : List Report) (looked : Looked) : Type 0 where

@@ -2,8 +2,8 @@
 //!
 //! Where 2^64 things were counted, the audit ends as where memory runs out: no recording has so many
 //! datagrams.
-ghost use Rattle.std.specs.Prelude.{◌≡◌, ◌<◌, ◌+◌, ◌^◌, [], IfOk, OnOk};
-ghost use Rattle.someipctl_recordings.specs.audit.Tallies.{Counts, tally_after, tally_looked};
+ghost use Rattle.std.specs.Prelude.{◌≡◌, ◌≤◌, ◌<◌, ◌+◌, ◌^◌, [], IfOk, OnErr, OnOk};
+ghost use Rattle.someipctl_recordings.specs.audit.Tallies.{Counts, most_looked, most_told, tally_after, tally_looked};
 
 use crate::audit::kind::{KIND_COUNT, Kind};
 use std::alloc::AllocError;
@@ -38,6 +38,7 @@ impl Tally {
     pub(crate) fn tell(&mut self, kind: Kind) -> Result<(), AllocError>
         ensures counted { OnOk result (self.new ≡ tally_after kind self.old) }
         ensures few { OnOk result (self.new.findings < 2 ^ 64) }
+        ensures full { OnErr result (2 ^ 64 ≤ most_told kind self.old) }
     {
         let number = kind.number();
         let findings = one_more(self.findings)?;
@@ -50,7 +51,8 @@ impl Tally {
     /// Counts one more datagram, if it is looked at, with so many messages. The error is that there is no
     /// room for their number.
     pub(crate) fn look(&mut self, messages: Option<usize>) -> Result<(), AllocError>
-        ensures { OnOk result (self.new ≡ tally_looked messages self.old) }
+        ensures looked { OnOk result (self.new ≡ tally_looked messages self.old) }
+        ensures full { OnErr result (2 ^ 64 ≤ most_looked messages self.old) }
     {
         let Some(messages) = messages else {
             return Ok(());
@@ -64,7 +66,8 @@ impl Tally {
 
 /// The next number, if there is room for it.
 fn one_more(number: usize) -> Result<usize, AllocError>
-    ensures { IfOk result (λ next. next ≡ number + 1) }
+    ensures next { IfOk result (λ next. next ≡ number + 1) }
+    ensures full { OnErr result (2 ^ 64 ≤ number + 1) }
 {
     number.checked_add(1).ok_or(AllocError)
 }

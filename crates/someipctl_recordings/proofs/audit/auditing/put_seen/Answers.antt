@@ -21,7 +21,7 @@ returns-clause-puts g c =
     let work = rw c.clear.ensures.items at c.in_ok-messages.ensures.ok in
     let shown = ap (λ (w : Work). w.told) work in
     let left = ap (λ (w : Work). w.held) work in
-    let looked = c.in_ok-look.ensures ∙ ap (λ n. tally_looked n c.put_due.new.tally) c.in_ok-messages.ensures.count in
+    let looked = c.in_ok-look.ensures.looked ∙ ap (λ n. tally_looked n c.put_due.new.tally) c.in_ok-messages.ensures.count in
     let ok = rw c.deref.ensures.value at c.put_all_found.ensures.ok in
     let counts = rw c.deref.ensures.value at c.put_all_found.ensures.counts in
     on_ok_two c.put_all_found.result
