@@ -118,13 +118,16 @@ onto_short_file() { (trap '' XFSZ && ulimit -f 1 && exec "$@"); }
 # ---- files: what cannot be read, what cannot be written, long words and little memory
 
 # Calls the command that reads an input, $2, in the circumstances $1 on the file $3: `setup`, `schedule` and `trace` are the
-# inputs of `run`, `picture` is the schedule of `chart`, and `types` is the types file of `show`.
+# inputs of `run`, `compared` is its schedule beside a trace, `picture` and `drawn` are the schedule and the setup of `chart`,
+# and `types` is the types file of `show`.
 read_by() {
     case $2 in
     setup) call "$1" run "$3" "$examples/runs/two.txt" ;;
     schedule) call "$1" run "$examples/runs/two.toml" "$3" ;;
     trace) call "$1" run --expect "$3" "$examples/runs/two.toml" "$examples/runs/two.txt" ;;
+    compared) call "$1" run --expect "$examples/runs/two.txt" "$examples/runs/two.toml" "$3" ;;
     picture) call "$1" chart "$examples/runs/two.toml" "$3" ;;
+    drawn) call "$1" chart "$3" "$examples/runs/two.txt" ;;
     types) call "$1" show --types "$3" "$examples/speed.txt" ;;
     *) call "$1" "$2" "$3" ;;
     esac
@@ -132,7 +135,7 @@ read_by() {
 
 # Each command refuses, in the circumstances $1, a file that cannot be read, at the path $3. $2 says what it is.
 expect_unread() {
-    for command in show vectors setup schedule trace picture types recording audit; do
+    for command in show vectors setup schedule trace compared picture drawn types recording audit; do
         read_by "$1" "$command" "$3"
         expect "$command of $2" 4 "cannot read $3" /dev/null
     done

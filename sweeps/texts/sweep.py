@@ -1,10 +1,10 @@
 """The sweep `texts`: what the built program says of texts that are not quite right, by rows: of setups, types files,
-schedules, shapes and payloads, and of words that come to no command.
+schedules, shapes, payloads and recordings, and of words that come to no command.
 
     sweep.py PROGRAM
 
 Rows of texts that are not quite right, and what the program says of each: setups, types files, schedules, texts of
-shapes, payloads, and words that come to no command. A setup is run over a schedule without steps; most rows change
+shapes, payloads, recordings, and words that come to no command. A setup is run over a schedule without steps; most rows change
 one place of the worked setup, and those of `in_order` put fault after fault into a setup with every key (but `liar`,
 which a row adds), so that each is told before all that stand there already. A types file shows a request, whose value
 is told where the file has a table. Each row stands in a file of `sweeps/texts`.
@@ -17,6 +17,7 @@ import tempfile
 from pathlib import Path
 
 from payloads import FAULTS, TAGGED_FAULTS, bad_shapes, deep_shapes
+from recordings import recordings
 from schedule_rows import schedules
 from setups import setups
 from types_files import types
@@ -99,6 +100,10 @@ def is_value(program, words, status, told):
     return run(program, words.split("|")) == (status, "", told)
 
 
+def is_recorded(program, words, data, status, shown, told):
+    return said_of(program, data, words) == (status, shown, told)
+
+
 PARTS = {
     "setup": (is_setup, setups()),
     "types file": (is_types, types()),
@@ -109,6 +114,7 @@ PARTS = {
     "help": (is_help, HELP),
     "usage": (is_usage, USAGE),
     "value": (is_value, tuple(values())),
+    "recording": (is_recorded, tuple(recordings())),
 }
 
 

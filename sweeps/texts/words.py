@@ -59,6 +59,12 @@ TOLD_FIRST = (
     ("recording|--whole-slots|1|missing", "error: limits of whole messages need '--whole'", RECORDING),
     ("recording|--whole-timeout|1|missing", "error: limits of whole messages need '--whole'", RECORDING),
 )
+# Values of `--service` that are none.
+BAD_SERVICES = ("x", "123", "12345", "1234.", "1234.042", "1234,", ",1234", "1234 ", "1234.0421.1", "0x1234")
+SHOW = "Usage: someipctl show [OPTIONS] <CAPTURE>"
+# Files of which two cannot be read, and the first is told: a types file before a recording, a setup before a schedule.
+NAMED_FIRST = ("recording|--types|nowhere|missing", "show|--types|nowhere|missing", "run|nowhere|missing",
+               "run|--expect|missing|nowhere|missing", "chart|nowhere|missing")
 
 
 def values():
@@ -78,3 +84,10 @@ def values():
             yield f"{command}|--ports|{text}|missing", 4, "cannot read missing\n"
     for words, told, usage in TOLD_FIRST:
         yield words, 2, f"{told}\n\n{usage}\n"
+    for command, usage in (("recording", RECORDING), ("show", SHOW)):
+        for text in BAD_SERVICES:
+            yield (f"{command}|--service|{text}|--types|nowhere|missing", 2, f"error: invalid value '{text}' for "
+                   "'--service <SERVICES>': services are four hex digits, perhaps with a dot and four more, with "
+                   f"commas between them\n\n{usage}\n")
+    for words in NAMED_FIRST:
+        yield words, 4, "cannot read nowhere\n"
