@@ -1,11 +1,15 @@
 -- How texts begin.
-use Rattle.std.proofs.Common.{◌≡◌, ℕ, ◌+◌, ◌<◌, ◌≤◌, List, [], ◌∷◌, length, get_or, take, drop, length-drop, ◌-◌, zero, suc, slice_range, sym, ap, ◌∙◌, ⊎_elim, arith}
+use Rattle.std.proofs.Common.{◌≡◌, ℕ, ◌+◌, ◌<◌, ◌≤◌, List, [], ◌∷◌, length, get_or, take, drop, length-drop, ◌-◌, zero, suc, slice_range, true, sym, ap, ◌∙◌, ⊎_elim, arith}
 use Rattle.std.specs.Prelude.{Result, Ok, Err, IfOk}
 use Rattle.std.specs.List.{AllByRecursion}
-use Rattle.std.proofs.Math.Nat.{eq-or-lt_of_le}
+use Rattle.std.specs.Str.{bytes_eq}
+use Rattle.std.proofs.lemmas.Slice.Eq.{bytes_eq-Decides}
 use Rattle.std.proofs.Math.Seq.{take-length}
-use Rattle.someip_payload.specs.declared.shape_text.Word.{Word}
-use Rattle.someip_payload.specs.declared.shape_text.Word.TheVariants as word
+use Rattle.std.proofs.Math.Nat.{eq-or-lt_of_le}
+use Rattle.someip_payload_values.specs.declared.shape.Encoding.TheVariants.{Utf8, Utf16}
+use Rattle.someip_payload.specs.declared.words.Integer.TheVariants as integer
+use Rattle.someip_payload.specs.declared.words.Word.{Word}
+use Rattle.someip_payload.specs.declared.words.Word.TheVariants as word
 use Rattle.someip_payload.specs.declared.shape_text_error.ShapeTextError.{ShapeTextError}
 use Rattle.someip_payload.specs.Words.{word_text}
 use Rattle.someip_payload.proofs.Pieces.{slice_range-empty}
@@ -15,27 +19,37 @@ AllByRecursion-at P [] k d lt all = absurd (omega arith)
 AllByRecursion-at P (x ∷ xs) zero d lt all = all.0
 AllByRecursion-at P (x ∷ xs) (suc k) d lt all = AllByRecursion-at P xs k d (omega arith) all.1
 
-pub take-rest : (text : List ℕ) (at : ℕ) → take (length text - at) (drop at text) ≡ drop at text
+take-rest : (text : List ℕ) (at : ℕ) → take (length text - at) (drop at text) ≡ drop at text
 take-rest text at = rw (← length-drop at text, take-length (drop at text))
 
--- a word that a text begins with
-pub whole_word : (word text name : List ℕ) (at count : ℕ) → count ≡ length word → take count word ≡ take count (drop at text) → word ≡ name → slice_range text at (at + count) ≡ name
-whole_word word text name at count all same is =
+-- a word that is the front of so many bytes of a text from a place on
+pub whole_word : (word bytes text name : List ℕ) (at count : ℕ) → bytes ≡ word → bytes_eq bytes (take count (take (length text - at) (drop at text))) ≡ true → word ≡ name
+    → slice_range text at (at + count) ≡ name
+whole_word word bytes text name at count is same named =
     let long : (at + count) - at ≡ count = omega arith in
-    rw (long, ← same, all, take-length word) is
+    let front : take count (drop at text) ≡ bytes = ap (take count) (sym (take-rest text at)) ∙ sym ((bytes_eq-Decides bytes (take count (take (length text - at) (drop at text)))).0 same) in
+    rw long (front ∙ is ∙ named)
 
 word_text-nonempty : (w : Word) → word_text w ≡ [] → ⊥
 word_text-nonempty word.Bool h = cc
-word_text-nonempty word.U8 h = cc
-word_text-nonempty word.U16 h = cc
-word_text-nonempty word.U32 h = cc
-word_text-nonempty word.U64 h = cc
-word_text-nonempty word.I8 h = cc
-word_text-nonempty word.I16 h = cc
-word_text-nonempty word.I32 h = cc
-word_text-nonempty word.I64 h = cc
-word_text-nonempty word.Utf8 h = cc
-word_text-nonempty word.Utf16 h = cc
+word_text-nonempty (word.Integer integer.U8) h = cc
+word_text-nonempty (word.Integer integer.U16) h = cc
+word_text-nonempty (word.Integer integer.U32) h = cc
+word_text-nonempty (word.Integer integer.U64) h = cc
+word_text-nonempty (word.Integer integer.I8) h = cc
+word_text-nonempty (word.Integer integer.I16) h = cc
+word_text-nonempty (word.Integer integer.I32) h = cc
+word_text-nonempty (word.Integer integer.I64) h = cc
+word_text-nonempty (word.Integer integer.U16Le) h = cc
+word_text-nonempty (word.Integer integer.U32Le) h = cc
+word_text-nonempty (word.Integer integer.U64Le) h = cc
+word_text-nonempty (word.Integer integer.I16Le) h = cc
+word_text-nonempty (word.Integer integer.I32Le) h = cc
+word_text-nonempty (word.Integer integer.I64Le) h = cc
+word_text-nonempty (word.Text Utf8) h = cc
+word_text-nonempty (word.Text Utf16) h = cc
+word_text-nonempty (word.FixedText Utf8) h = cc
+word_text-nonempty (word.FixedText Utf16) h = cc
 word_text-nonempty word.Array h = cc
 word_text-nonempty word.Fixed h = cc
 word_text-nonempty word.Struct h = cc

@@ -1,21 +1,25 @@
 -- Each text of a shape is read as it: what stands in a text, part by part.
-use Rattle.std.proofs.Common.{◌≡◌, ℕ, ◌+◌, ◌-◌, ◌<◌, ◌≤◌, IsErrAnd, cond, eqb, List, [], ◌∷◌, ◌++◌, length, get_or, drop, slice_range, Option, Some, None, refl, sym, ap, subst, ◌∙◌, append_assoc, arith}
-use Rattle.std.specs.Prelude.{Result, Ok, Err, IfOk, IfErr}
+use Rattle.std.proofs.Common.{◌≡◌, ℕ, ◌+◌, ◌<◌, ◌≤◌, ⊎_elim, IsErrAnd, false, List, [], ◌∷◌, ◌++◌, length, drop, codes, Option, Some, None, refl, sym, ap, subst, ◌∙◌, append_assoc, arith}
+use Rattle.std.specs.Prelude.{Result, Ok, Err}
 use Rattle.std.specs.Fmt.{decimal}
-use Rattle.std.specs.List.{AllByRecursion}
 use Rattle.std.proofs.lemmas.Result.{err_from_is_err_and}
-use Rattle.std.proofs.lemmas.List.{length-append, length-take, length-drop, drop-drop, drop_at, take-append-drop}
+use Rattle.std.proofs.lemmas.List.{length-append, append-nil}
+use Rattle.someip_payload_values.specs.declared.shape.Encoding.TheVariants.{Utf8, Utf16}
 use Rattle.someip_payload_values.specs.declared.shape.Shape.{Shape}
 use Rattle.someip_payload_values.specs.declared.shape.Width.{Width}
 use Rattle.someip_payload_values.specs.declared.shape.Width.TheVariants.{W8, W16, W32}
-use Rattle.someip_payload.specs.declared.shape_text.Word.{Word}
-use Rattle.someip_payload.specs.declared.shape_text.Word.TheVariants as word
+use Rattle.someip_payload.specs.declared.words.Integer.{Integer}
+use Rattle.someip_payload.specs.declared.words.Integer.TheVariants as integer
+use Rattle.someip_payload.specs.declared.words.Word.{Word}
+use Rattle.someip_payload.specs.declared.words.Word.TheVariants as word
 use Rattle.someip_payload.specs.declared.shape_text_error.ShapeTextError.{ShapeTextError}
-use Rattle.someip_payload_values.specs.Check.{depth}
+use Rattle.someip_payload.specs.declared.shape_text_error.ShapeTextError.TheVariants.{BadShape, OutOfMemory}
+use Rattle.someip_payload_values.specs.Check.{depth, is_later}
 use Rattle.someip_payload_values.specs.Data.{Form}
-use Rattle.someip_payload.specs.ShapeText.{IsTextOf, bool_text, u8_text, u16_text, u32_text, u64_text, i8_text, i16_text, i32_text, i64_text, utf8_text, utf16_text, array_text, fixed_text, struct_text, union_text, tagged_text, width_text, IsDigit, HasNoWidth, IsNoFront, IsReadTo}
+use Rattle.someip_payload.specs.ShapeText.{IsInteger, u8_text, u16_text, u32_text, u64_text, i8_text, i16_text, i32_text, i64_text, u16le_text, u32le_text, u64le_text, i16le_text, i32le_text, i64le_text, IsTextOf, bool_text, integer_text, utf8_text, utf16_text, utf8fix_text, utf16fix_text, array_text, fixed_text, struct_text, union_text, tagged_text, width_text, widths_text, room_text, repeated_text, IsDigit, HasNoWidth, EndsWord, EndsShape, IsReadTo}
 use Rattle.someip_payload_values.specs.View.{form}
-use Rattle.someip_payload.specs.Words.{word_text, Behind}
+use Rattle.someip_payload.specs.Words.{integer_form, integer_word, word_text, Behind}
+use Rattle.someip_payload.proofs.Places.{behind_piece}
 
 -- ---- two answers that are one
 
@@ -53,137 +57,94 @@ not_read e x is = subst is_read (sym is) tt
 pub passed_on : {A : Type 0} (r : Result A ShapeTextError) (e : ShapeTextError) → IsErrAnd r (λ y. y ≡ e) → r ≡ Err e
 passed_on r e is = let p = err_from_is_err_and r is in p.1 ∙ ap fault_of p.2
 
--- ---- no word begins another
-
-first_word_of : List ℕ → Word
-first_word_of bytes =
-    let a = get_or bytes 0 0 in
-    let b = get_or bytes 1 0 in
-    let d = get_or bytes 3 0 in
-    cond (eqb a 98) word.Bool
-    (cond (eqb a 97) word.Array
-    (cond (eqb a 102) word.Fixed
-    (cond (eqb a 115) word.Struct
-    (cond (eqb a 116) word.Tagged
-    (cond (eqb a 105) (cond (eqb b 56) word.I8 (cond (eqb b 49) word.I16 (cond (eqb b 51) word.I32 word.I64)))
-    (cond (eqb b 56) word.U8
-    (cond (eqb b 49) word.U16
-    (cond (eqb b 51) word.U32
-    (cond (eqb b 54) word.U64
-    (cond (eqb b 110) word.Union
-    (cond (eqb d 56) word.Utf8 word.Utf16)))))))))))
-
-word_back : (w : Word) (rest : List ℕ) → first_word_of (word_text w ++ rest) ≡ w
-unfolding first_word_of
-word_back word.Bool rest = refl
-word_back word.U8 rest = refl
-word_back word.U16 rest = refl
-word_back word.U32 rest = refl
-word_back word.U64 rest = refl
-word_back word.I8 rest = refl
-word_back word.I16 rest = refl
-word_back word.I32 rest = refl
-word_back word.I64 rest = refl
-word_back word.Utf8 rest = refl
-word_back word.Utf16 rest = refl
-word_back word.Array rest = refl
-word_back word.Fixed rest = refl
-word_back word.Struct rest = refl
-word_back word.Union rest = refl
-word_back word.Tagged rest = refl
-
-same_word : (w v : Word) (r s : List ℕ) → word_text w ++ r ≡ word_text v ++ s → w ≡ v
-same_word w v r s is = sym (word_back w r) ∙ ap first_word_of is ∙ word_back v s
-
--- ---- a piece that was read in front of what stands there
-
--- the text from a place on is the piece, and then the rest
-pub pieces : (text piece : List ℕ) (at end : ℕ) → at ≤ end → end ≤ length text → slice_range text at end ≡ piece → drop at text ≡ piece ++ drop end text
-pieces text piece at end le within is =
-    let same : at + (end - at) ≡ end = omega arith in
-    let back : drop (end - at) (drop at text) ≡ drop end text = drop-drop (end - at) at text ∙ ap (λ n. drop n text) same in
-    sym (take-append-drop (end - at) (drop at text)) ∙ ap (λ (t : List ℕ). t ++ drop (end - at) (drop at text)) is ∙ ap (λ (t : List ℕ). piece ++ t) back
-
-pub piece_end : (text piece : List ℕ) (at end : ℕ) → at ≤ end → end ≤ length text → slice_range text at end ≡ piece → end ≡ at + length piece
-piece_end text piece at end le within is = omega (arith, le, within, ap length is, length-take (end - at) (drop at text), length-drop at text)
-
--- the text after a piece
-pub behind_piece : (text piece rest : List ℕ) (at end : ℕ) → drop at text ≡ piece ++ rest → end ≡ at + length piece → drop end text ≡ rest
-behind_piece text piece rest at end is place =
-    ap (λ n. drop n text) place ∙ sym (drop-drop (length piece) at text) ∙ ap (drop (length piece)) is ∙ drop_at piece rest (length piece) refl
-
 -- what is read at a place, where a number stands there and no digit after it
 abbrev pub NumberOnly : List ℕ → ℕ → ℕ → Result (ℕ × ℕ) ShapeTextError → Type 0
 NumberOnly text at limit r = (n b : ℕ) (rest : List ℕ) → drop at text ≡ decimal n ++ b ∷ rest → n < limit → (IsDigit b → ⊥) → r ≡ Ok (n, at + length (decimal n))
 
--- ---- the word
+-- ---- the words of integers
 
-pub first_word_only : (r : Result (Word × ℕ) ShapeTextError) (text : List ℕ) (at : ℕ) (w : Word) (rest : List ℕ) → drop at text ≡ word_text w ++ rest
-    → IfOk r (λ x. slice_range text at x.1 ≡ word_text x.0) → IfOk r (λ x. (at ≤ x.1) × (x.1 ≤ length text)) → IfErr r (λ e. IsNoFront (word_text w) (drop at text)) → r ≡ Ok (w, at + length (word_text w))
-first_word_only (Ok x) text at w rest is found bounds none =
-    let same : x.0 ≡ w = same_word x.0 w (drop x.1 text) rest (sym (pieces text (word_text x.0) at x.1 bounds.0 bounds.1 found) ∙ is) in
-    let end : x.1 ≡ at + length (word_text w) = piece_end text (word_text x.0) at x.1 bounds.0 bounds.1 found ∙ ap (λ v. at + length (word_text v)) same in
-    λ i. Ok (same i, end i)
-first_word_only (Err e) text at w rest is found bounds none = absurd (none rest is)
+pub integer_of : (f : Form) (text : List ℕ) → IsInteger f text → (i : Integer) × (f ≡ integer_form i) × (text ≡ integer_word i)
+integer_of f text u8_text = (integer.U8, refl, refl)
+integer_of f text u16_text = (integer.U16, refl, refl)
+integer_of f text u32_text = (integer.U32, refl, refl)
+integer_of f text u64_text = (integer.U64, refl, refl)
+integer_of f text i8_text = (integer.I8, refl, refl)
+integer_of f text i16_text = (integer.I16, refl, refl)
+integer_of f text i32_text = (integer.I32, refl, refl)
+integer_of f text i64_text = (integer.I64, refl, refl)
+integer_of f text u16le_text = (integer.U16Le, refl, refl)
+integer_of f text u32le_text = (integer.U32Le, refl, refl)
+integer_of f text u64le_text = (integer.U64Le, refl, refl)
+integer_of f text i16le_text = (integer.I16Le, refl, refl)
+integer_of f text i32le_text = (integer.I32Le, refl, refl)
+integer_of f text i64le_text = (integer.I64Le, refl, refl)
 
-abbrev pub NoWord : List ℕ → Type 0
-NoWord text =
-    AllByRecursion (λ w. IsNoFront (word_text w) text)
-    (word.Bool ∷ word.U8 ∷ word.U16 ∷ word.U32 ∷ word.U64 ∷ word.I8 ∷ word.I16 ∷ word.I32 ∷ word.I64 ∷ word.Utf8 ∷ word.Utf16 ∷ word.Array ∷ word.Fixed ∷ word.Struct ∷ word.Union ∷ word.Tagged ∷ [])
+pub integer_is : (i : Integer) → IsInteger (integer_form i) (integer_word i)
+integer_is integer.U8 = u8_text
+integer_is integer.U16 = u16_text
+integer_is integer.U32 = u32_text
+integer_is integer.U64 = u64_text
+integer_is integer.I8 = i8_text
+integer_is integer.I16 = i16_text
+integer_is integer.I32 = i32_text
+integer_is integer.I64 = i64_text
+integer_is integer.U16Le = u16le_text
+integer_is integer.U32Le = u32le_text
+integer_is integer.U64Le = u64le_text
+integer_is integer.I16Le = i16le_text
+integer_is integer.I32Le = i32le_text
+integer_is integer.I64Le = i64le_text
 
-pub none_of : (text : List ℕ) (w : Word) → NoWord text → IsNoFront (word_text w) text
-none_of text word.Bool none = none.0
-none_of text word.U8 none = none.1.0
-none_of text word.U16 none = none.1.1.0
-none_of text word.U32 none = none.1.1.1.0
-none_of text word.U64 none = none.1.1.1.1.0
-none_of text word.I8 none = none.1.1.1.1.1.0
-none_of text word.I16 none = none.1.1.1.1.1.1.0
-none_of text word.I32 none = none.1.1.1.1.1.1.1.0
-none_of text word.I64 none = none.1.1.1.1.1.1.1.1.0
-none_of text word.Utf8 none = none.1.1.1.1.1.1.1.1.1.0
-none_of text word.Utf16 none = none.1.1.1.1.1.1.1.1.1.1.0
-none_of text word.Array none = none.1.1.1.1.1.1.1.1.1.1.1.0
-none_of text word.Fixed none = none.1.1.1.1.1.1.1.1.1.1.1.1.0
-none_of text word.Struct none = none.1.1.1.1.1.1.1.1.1.1.1.1.1.0
-none_of text word.Union none = none.1.1.1.1.1.1.1.1.1.1.1.1.1.1.0
-none_of text word.Tagged none = none.1.1.1.1.1.1.1.1.1.1.1.1.1.1.1.0
+-- ---- what stands after a shape and after its word
 
-pub if_none : {X : Type 0} {E : Type 0} (r : Result X E) (A B : Type 0) → (A → B) → IfErr r (λ e. A) → IfErr r (λ e. B)
-if_none (Ok x) A B f h = tt
-if_none (Err e) A B f h = f h
+pub ends_word : (rest : List ℕ) → EndsShape rest → EndsWord rest
+ends_word [] ends = tt
+ends_word (b ∷ rest) ends =
+    ⊎_elim (λ e. (ap is_later e, λ h. omega (arith, e, h))) (⊎_elim (λ e. (ap is_later e, λ h. omega (arith, e, h))) (λ e. (ap is_later e, λ h. omega (arith, e, h)))) ends
 
--- ---- the width
+pub ends_width : (rest : List ℕ) → EndsShape rest → HasNoWidth rest
+ends_width [] ends = tt
+ends_width (b ∷ rest) ends = λ h. ⊎_elim (λ e. omega (arith, e, h)) (⊎_elim (λ e. omega (arith, e, h)) (λ e. omega (arith, e, h))) ends
 
-width_of_text : List ℕ → Option Width
-width_of_text bytes =
-    let a = get_or bytes 1 0 in
-    cond (eqb a 56) (Some W8) (cond (eqb a 49) (Some W16) (Some W32))
+-- a slash, a round bracket and an angle bracket end a word
+abbrev WordEnd : ℕ → Type 0
+WordEnd b = (is_later b ≡ false) × (b ≡ 58 → ⊥)
 
-width_back : (w : Width) (rest : List ℕ) → width_of_text (width_text (Some w) ++ rest) ≡ Some w
-unfolding width_of_text
-width_back W8 rest = refl
-width_back W16 rest = refl
-width_back W32 rest = refl
+slash : WordEnd 47
+slash = (refl, λ h. omega (arith, h))
 
-same_width : (w v : Width) (r s : List ℕ) → width_text (Some w) ++ r ≡ width_text (Some v) ++ s → w ≡ v
-same_width w v r s is = let both = sym (width_back w r) ∙ ap width_of_text is ∙ width_back v s in cc
+bracket : WordEnd 40
+bracket = (refl, λ h. omega (arith, h))
 
--- a width goes on
-goes_on : (v : Width) (others : List ℕ) → HasNoWidth (width_text (Some v) ++ others) → ⊥
-goes_on W8 others stops = stops refl
-goes_on W16 others stops = stops refl
-goes_on W32 others stops = stops refl
+angle : WordEnd 60
+angle = (refl, λ h. omega (arith, h))
 
--- the width that was read is the one that stands there
-pub width_is : (text : List ℕ) (at end : ℕ) (v : Width) → at ≤ end → end ≤ length text → slice_range text at end ≡ width_text (Some v) → (w : Option Width) (rest : List ℕ) → drop at text ≡ width_text w ++ rest → HasNoWidth rest
-    → (Some v ≡ w) × (end ≡ at + length (width_text w))
-width_is text at end v le within found None rest is stops =
-    let bytes = pieces text (width_text (Some v)) at end le within found in
-    absurd (goes_on v (drop end text) (subst HasNoWidth (sym is ∙ bytes) stops))
-width_is text at end v le within found (Some w) rest is stops =
-    let same : v ≡ w = same_width v w (drop end text) rest (sym (pieces text (width_text (Some v)) at end le within found) ∙ is) in
-    (ap Some same, piece_end text (width_text (Some v)) at end le within found ∙ ap (λ u. at + length (width_text (Some u))) same)
+after_width_ends : (w : Option Width) (rest : List ℕ) → EndsWord rest → EndsWord (width_text w ++ rest)
+after_width_ends None rest ends = ends
+after_width_ends (Some W8) rest ends = slash
+after_width_ends (Some W16) rest ends = slash
+after_width_ends (Some W32) rest ends = slash
+
+after_widths_ends : (ws : Option (Width × Width)) (rest : List ℕ) → EndsWord rest → EndsWord (widths_text ws ++ rest)
+after_widths_ends None rest ends = ends
+after_widths_ends (Some ws) rest ends =
+    rw (append_assoc (width_text (Some ws.0)) (width_text (Some ws.1)) rest) (after_width_ends (Some ws.0) (width_text (Some ws.1) ++ rest) (after_width_ends (Some ws.1) rest ends))
+
+behind_width : (w : Option Width) (back inside rest : List ℕ) → back ≡ width_text w ++ inside → EndsWord (inside ++ rest) → EndsWord (back ++ rest)
+behind_width w back inside rest is ends =
+    subst EndsWord (sym (ap (λ (t : List ℕ). t ++ rest) is ∙ append_assoc (width_text w) inside rest)) (after_width_ends w (inside ++ rest) ends)
+
+pub behind_ends : (w : Word) (f : Form) (back rest : List ℕ) → Behind w f back → EndsShape rest → EndsWord (back ++ rest)
+behind_ends word.Bool f back rest behind stops = subst EndsWord (sym (ap (λ (t : List ℕ). t ++ rest) behind.1)) (ends_word rest stops)
+behind_ends (word.Integer i) f back rest behind stops = subst EndsWord (sym (ap (λ (t : List ℕ). t ++ rest) behind.1)) (ends_word rest stops)
+behind_ends (word.Text e) f back rest behind stops = subst EndsWord (sym (ap (λ (t : List ℕ). t ++ rest) behind.2)) (after_width_ends behind.0 rest (ends_word rest stops))
+behind_ends (word.FixedText e) f back rest behind stops = subst EndsWord (sym (ap (λ (t : List ℕ). t ++ rest) behind.3)) angle
+behind_ends word.Array f back rest behind stops = behind_width behind.0 back (repeated_text behind.1 behind.3) rest behind.7 angle
+behind_ends word.Fixed f back rest behind stops = behind_width behind.0 back (repeated_text behind.1 behind.3) rest behind.7 angle
+behind_ends word.Struct f back rest behind stops = behind_width behind.0 back (codes "(" ++ (behind.2 ++ codes ")")) rest behind.5 bracket
+behind_ends word.Union f back rest behind stops =
+    subst EndsWord (sym (ap (λ (t : List ℕ). t ++ rest) behind.5 ∙ append_assoc (widths_text behind.0) (codes "(" ++ (behind.2 ++ codes ")")) rest)) (after_widths_ends behind.0 (codes "(" ++ (behind.2 ++ codes ")") ++ rest) bracket)
+behind_ends word.Tagged f back rest behind stops = behind_width behind.0 back (codes "(" ++ (behind.2 ++ codes ")")) rest behind.5 bracket
 
 -- ---- a text by its word
 
@@ -196,20 +157,17 @@ pub record Split (f : Form) (text : List ℕ) : Type 0 where
 
 pub split : (f : Form) (text : List ℕ) → IsTextOf f text → Split f text
 split f text bool_text = record { first = word.Bool; back = []; is = refl; behind = (refl, refl) }
-split f text u8_text = record { first = word.U8; back = []; is = refl; behind = (refl, refl) }
-split f text u16_text = record { first = word.U16; back = []; is = refl; behind = (refl, refl) }
-split f text u32_text = record { first = word.U32; back = []; is = refl; behind = (refl, refl) }
-split f text u64_text = record { first = word.U64; back = []; is = refl; behind = (refl, refl) }
-split f text i8_text = record { first = word.I8; back = []; is = refl; behind = (refl, refl) }
-split f text i16_text = record { first = word.I16; back = []; is = refl; behind = (refl, refl) }
-split f text i32_text = record { first = word.I32; back = []; is = refl; behind = (refl, refl) }
-split f text i64_text = record { first = word.I64; back = []; is = refl; behind = (refl, refl) }
-split f text (utf8_text w) = record { first = word.Utf8; back = width_text w; is = refl; behind = (w, refl, refl) }
-split f text (utf16_text w) = record { first = word.Utf16; back = width_text w; is = refl; behind = (w, refl, refl) }
+split f text (integer_text g bytes is) =
+    let own = integer_of g bytes is in
+    record { first = word.Integer own.0; back = []; is = own.2 ∙ sym (append-nil (integer_word own.0)); behind = (own.1, refl) }
+split f text (utf8_text w) = record { first = word.Text Utf8; back = width_text w; is = refl; behind = (w, refl, refl) }
+split f text (utf16_text w) = record { first = word.Text Utf16; back = width_text w; is = refl; behind = (w, refl, refl) }
+split f text (utf8fix_text n small) = record { first = word.FixedText Utf8; back = room_text n; is = refl; behind = (n, small, refl, refl) }
+split f text (utf16fix_text n small) = record { first = word.FixedText Utf16; back = room_text n; is = refl; behind = (n, small, refl, refl) }
 split f text (array_text w n g element small is) = record { first = word.Array; back = _; is = refl; behind = (w, n, g, element, small, is, refl, refl) }
-split f text (fixed_text n g element small is) = record { first = word.Fixed; back = _; is = refl; behind = (n, g, element, small, is, refl, refl) }
+split f text (fixed_text w n g element small is) = record { first = word.Fixed; back = _; is = refl; behind = (w, n, g, element, small, is, refl, refl) }
 split f text (struct_text w fs members are) = record { first = word.Struct; back = _; is = refl; behind = (w, fs, members, are, refl, refl) }
-split f text (union_text vs variants are) = record { first = word.Union; back = _; is = refl; behind = (vs, variants, are, refl, refl) }
+split f text (union_text ws vs variants are) = record { first = word.Union; back = _; is = refl; behind = (ws, vs, variants, are, refl, refl) }
 split f text (tagged_text w ms members are) = record { first = word.Tagged; back = _; is = refl; behind = (w, ms, members, are, refl, refl) }
 
 abbrev pub word_read : Word → ℕ → Result (Word × ℕ) ShapeTextError
@@ -217,19 +175,19 @@ word_read w end = Ok (w, end)
 
 -- the word that stands at a place is the one that was read there
 abbrev pub WordOnly : List ℕ → ℕ → Word → ℕ → Type 0
-WordOnly text at w end = (v : Word) (others : List ℕ) → drop at text ≡ word_text v ++ others → word_read w end ≡ Ok (v, at + length (word_text v))
+WordOnly text at w end = (v : Word) (others : List ℕ) → drop at text ≡ word_text v ++ others → EndsWord others → word_read w end ≡ Ok (v, at + length (word_text v))
 
 -- what is read at a place, where a shape stands there
 abbrev pub ShapeOnly : List ℕ → ℕ → ℕ → Result (Shape × ℕ) ShapeTextError → Type 0
-ShapeOnly text at most r = (f : Form) (front rest : List ℕ) → drop at text ≡ front ++ rest → IsTextOf f front → depth f ≤ most → HasNoWidth rest → IsReadTo form f (at + length front) r
+ShapeOnly text at most r = (f : Form) (front rest : List ℕ) → drop at text ≡ front ++ rest → IsTextOf f front → depth f ≤ most → EndsShape rest → IsReadTo form f (at + length front) r
 
 -- a shape, read by its word
 pub by_word : (text : List ℕ) (at end most : ℕ) (w v : Word) (r : Result (Shape × ℕ) ShapeTextError) → w ≡ v → WordOnly text at w end
-    → ((f : Form) (back rest : List ℕ) → drop end text ≡ back ++ rest → Behind v f back → depth f ≤ most → HasNoWidth rest → IsReadTo form f (end + length back) r) → ShapeOnly text at most r
+    → ((f : Form) (back rest : List ℕ) → drop end text ≡ back ++ rest → Behind v f back → depth f ≤ most → EndsShape rest → IsReadTo form f (end + length back) r) → ShapeOnly text at most r
 by_word text at end most w v r word only read f front rest is is_text deep stops =
     let s = split f front is_text in
     let here : drop at text ≡ word_text s.first ++ (s.back ++ rest) = is ∙ ap (λ (t : List ℕ). t ++ rest) s.is ∙ append_assoc (word_text s.first) s.back rest in
-    let both = only s.first (s.back ++ rest) here in
+    let both = only s.first (s.back ++ rest) here (behind_ends s.first f s.back rest s.behind stops) in
     let first : w ≡ s.first = same_first w s.first end (at + length (word_text s.first)) both in
     let place : end ≡ at + length (word_text s.first) = same_second w s.first end (at + length (word_text s.first)) both in
     let behind : Behind v f s.back = subst (λ u. Behind u f s.back) (sym first ∙ word) s.behind in
@@ -245,7 +203,13 @@ plain text at end most w v s g word is own only =
     (is ∙ sym whole.0, omega (arith, ap length whole.1)))
 
 -- a text begins with a word
-pub word_there : (text front rest : List ℕ) (at : ℕ) (f : Form) → drop at text ≡ front ++ rest → IsTextOf f front → (w : Word) × (others : List ℕ) × (drop at text ≡ word_text w ++ others)
-word_there text front rest at f is is_text =
+pub word_there : (text front rest : List ℕ) (at : ℕ) (f : Form) → drop at text ≡ front ++ rest → IsTextOf f front → EndsShape rest
+    → (w : Word) × (others : List ℕ) × (drop at text ≡ word_text w ++ others) × EndsWord others
+word_there text front rest at f is is_text stops =
     let s = split f front is_text in
-    (s.first, s.back ++ rest, is ∙ ap (λ (t : List ℕ). t ++ rest) s.is ∙ append_assoc (word_text s.first) s.back rest)
+    (s.first, s.back ++ rest, is ∙ ap (λ (t : List ℕ). t ++ rest) s.is ∙ append_assoc (word_text s.first) s.back rest, behind_ends s.first f s.back rest s.behind stops)
+
+-- no fault of the text
+pub memory_of : {X Y : Type 0} (view : X → Y) (y : Y) (end : ℕ) (e : ShapeTextError) → IsReadTo view y end (fault_of e) → e ≡ OutOfMemory
+memory_of view y end OutOfMemory memory = refl
+memory_of view y end (BadShape at) bad = absurd bad

@@ -1,10 +1,12 @@
 -- A decimal number at the front of a text is the one that is read there.
-use Rattle.std.proofs.Common.{◌≡◌, ℕ, zero, suc, ◌+◌, ◌-◌, ◌*◌, ◌/◌, ◌%◌, ◌<◌, ◌≤◌, ◌^◌, List, [], ◌∷◌, ◌++◌, length, get_or, take, drop, slice_range, refl, sym, ap, subst, ◌∙◌, ⊎_elim, arith}
+use Rattle.std.proofs.Common.{◌≡◌, ℕ, zero, suc, ◌+◌, ◌-◌, ◌*◌, ◌/◌, ◌%◌, ◌<◌, ◌≤◌, ◌^◌, List, [], ◌∷◌, ◌++◌, length, get_or, take, drop, slice_range, false, refl, sym, ap, subst, ◌∙◌, ⊎_elim, arith}
 use Rattle.std.specs.Fmt.{decimal}
 use Rattle.std.proofs.lemmas.Bool.{cases_lt}
+use Rattle.std.proofs.lemmas.Bool.Decides.{nat_tests}
 use Rattle.std.proofs.lemmas.Fmt.{decimal_digit, decimal_step, decimal_by_steps, decimal_nonempty, first_decimal, decimal_injective}
 use Rattle.std.proofs.lemmas.List.{length-append, length-take, length-drop, get_or_append_left, get_or_at, get_or-drop, get_or-take, take-append-le, take_at, take_all, take_more}
-use Rattle.someip_payload.specs.ShapeText.{IsDigit}
+use Rattle.someip_payload_values.specs.Check.{is_first}
+use Rattle.someip_payload.specs.ShapeText.{IsDigit, BeginsNoName}
 
 -- what is known of the digits of a number: all are digits, and each front is a number that is not larger
 record DecimalParts (n : ℕ) (ds : List ℕ) : Type 0 where
@@ -50,6 +52,17 @@ more_digits n ds le small h = record { is = is; digits = digits; fronts = fronts
 
 decimal_parts : (n : ℕ) → n < 2 ^ 64 → DecimalParts n (decimal n)
 decimal_parts n small = decimal_by_steps (λ k ds. k < 2 ^ 64 → DecimalParts k ds) (λ k lt fits. one_digit k lt) (λ k ds le rest fits. more_digits k ds le fits (rest (omega arith))) n small small
+
+-- a digit begins no name
+no_first : (b : ℕ) → IsDigit b → is_first b ≡ false
+no_first b digit = grind (arith, nat_tests)
+
+digit_first : (ds tail rest : List ℕ) → 0 < length ds → IsDigit (get_or ds 0 0) → BeginsNoName ((ds ++ tail) ++ rest)
+digit_first [] tail rest some digit = absurd (omega arith)
+digit_first (d ∷ ds) tail rest some digit = no_first d digit
+
+pub number_first : (n : ℕ) (tail rest : List ℕ) → n < 2 ^ 64 → BeginsNoName ((decimal n ++ tail) ++ rest)
+number_first n tail rest small = digit_first (decimal n) tail rest (decimal_nonempty n small) ((decimal_parts n small).digits 0 (decimal_nonempty n small))
 
 -- ---- a number n at the front of the bytes, after which no digit stands
 

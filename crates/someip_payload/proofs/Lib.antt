@@ -1,4 +1,8 @@
+mod Fronts
 mod Pieces
+mod Places
+mod WordTable
+mod NameBytes
 mod Numbers
 mod Members
 mod OneAfterOther
@@ -8,3 +12,4 @@ pub mod Decimals
 pub mod Converse
 pub mod ConverseParts
 pub mod TaggedMembers
+pub mod MemberTexts

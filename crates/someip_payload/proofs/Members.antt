@@ -6,13 +6,13 @@ use Rattle.someip_payload_values.specs.declared.shape.Member.{Member}
 use Rattle.someip_payload_values.specs.Check.{depth, deepest, deepest_variant, deepest_member}
 use Rattle.someip_payload_values.specs.Data.{Form, Forms, no_forms, form_then, Variants, no_variants, variant, Members, no_members, member_then}
 use Rattle.someip_payload_values.specs.View.{form, forms, all_variants, OneMember, one_member, all_members}
-use Rattle.someip_payload.specs.ShapeText.{IsTextOf, IsTextOfMembers, last_member, next_member, IsTextOfVariants, last_variant, next_variant, OneVariant, one_variant, IsTextOfVariant, IsTextOfTaggedMembers, last_tagged, next_tagged, IsTextOfTaggedMember, tagged_member_text}
+use Rattle.someip_payload.specs.ShapeText.{IsTextOfMember, IsTextOfMembers, last_member, next_member, IsTextOfVariants, last_variant, next_variant, OneVariant, one_variant, IsTextOfVariant, IsTextOfTaggedMembers, last_tagged, next_tagged, IsTextOfTaggedMember}
 use Rattle.someip_payload.proofs.OneAfterOther.{ByFirst, Listing}
 
 -- ---- members
 
 -- the text of members is that of the last one, or of one in front of others
-pub first_member : ByFirst Form Forms form_then no_forms IsTextOf IsTextOfMembers
+pub first_member : ByFirst Form Forms form_then no_forms IsTextOfMember IsTextOfMembers
 first_member P last next fs text (last_member f own is) = last f own is
 first_member P last next fs text (next_member f gs own others is are) = next f gs own others is are
 
@@ -25,7 +25,7 @@ members = record {
   all = forms;
   in_front = form_then;
   all-in_front = λ s ss. refl;
-  IsText = IsTextOf;
+  IsText = IsTextOfMember;
   AreText = IsTextOfMembers;
   last_text = last_member;
   next_text = next_member;
@@ -84,17 +84,16 @@ then_tagged m ms = member_then m.id m.optional m.form ms
 
 -- the text of the last member
 pub tagged_last : (m : OneMember) (text : List ℕ) → IsTextOfTaggedMember m text → IsTextOfTaggedMembers (then_tagged m no_members) text
-tagged_last m text (shape, small, is, same) = subst (IsTextOfTaggedMembers (then_tagged m no_members)) (sym same) (last_tagged m.id m.optional m.form shape small is)
+tagged_last m text is = last_tagged m.id m.optional m.form text is
 
 -- the text of a member in front of others
 pub tagged_next : (m : OneMember) (ms : Members) (text others : List ℕ) → IsTextOfTaggedMember m text → IsTextOfTaggedMembers ms others → IsTextOfTaggedMembers (then_tagged m ms) (text ++ (codes "," ++ others))
-tagged_next m ms text others (shape, small, is, same) are =
-    subst (λ (t : List ℕ). IsTextOfTaggedMembers (then_tagged m ms) (t ++ (codes "," ++ others))) (sym same) (next_tagged m.id m.optional m.form ms shape others small is are)
+tagged_next m ms text others is are = next_tagged m.id m.optional m.form ms text others is are
 
 -- the text of members is one of these two
 pub first_tagged : ByFirst OneMember Members then_tagged no_members IsTextOfTaggedMember IsTextOfTaggedMembers
-first_tagged P last next ms text (last_tagged id optional f shape small is) = last (record { id = id; optional = optional; form = f }) (tagged_member_text id optional shape) (shape, small, is, refl)
-first_tagged P last next ms text (next_tagged id optional f ns shape others small is are) = next (record { id = id; optional = optional; form = f }) ns (tagged_member_text id optional shape) others (shape, small, is, refl) are
+first_tagged P last next ms text (last_tagged id optional f own is) = last (record { id = id; optional = optional; form = f }) own is
+first_tagged P last next ms text (next_tagged id optional f ns own others is are) = next (record { id = id; optional = optional; form = f }) ns own others is are
 
 abbrev pub tagged_members : Listing
 tagged_members = record {

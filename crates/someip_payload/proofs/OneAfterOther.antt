@@ -3,8 +3,9 @@ use Rattle.std.proofs.Common.{◌≡◌, ℕ, ◌+◌, ◌<◌, ◌≤◌, ◌�
 use Rattle.std.proofs.lemmas.Bool.{false≢true}
 use Rattle.std.proofs.lemmas.List.{length-append, get_or-drop}
 use Rattle.someip_payload.specs.declared.shape_text_error.ShapeTextError.{ShapeTextError}
-use Rattle.someip_payload.specs.ShapeText.{HasNoWidth, IsReadTo}
-use Rattle.someip_payload.proofs.Converse.{behind_piece, fault_of, not_read}
+use Rattle.someip_payload.specs.ShapeText.{EndsShape, IsReadTo}
+use Rattle.someip_payload.proofs.Converse.{fault_of, not_read}
+use Rattle.someip_payload.proofs.Places.{behind_piece}
 use Rattle.someip_payload.proofs.Pieces.{slice_range-byte, slice_range-append, slice_range-empty}
 
 -- the text of items is that of the last one, or of one in front of others
@@ -87,7 +88,7 @@ module _ (k : Listing) where
 
   -- what is read at a place, where an item stands there
   abbrev pub ItemOnly : List ℕ → ℕ → ℕ → Result (Item × ℕ) ShapeTextError → Type 0
-  ItemOnly text most next r = (x : One) (front tail : List ℕ) → drop next text ≡ front ++ tail → IsText x front → depth_of x ≤ most → HasNoWidth tail → IsReadTo one x (next + length front) r
+  ItemOnly text most next r = (x : One) (front tail : List ℕ) → drop next text ≡ front ++ tail → IsText x front → depth_of x ≤ most → EndsShape tail → IsReadTo one x (next + length front) r
 
   module _ (text : List ℕ) (most stop : ℕ) (xs : All) (rest : List ℕ) where
     -- others at a place, where these were read
@@ -130,7 +131,7 @@ module _ (k : Listing) where
     only_one : (ss : List Item) (next : ℕ) (r : Result (Item × ℕ) ShapeTextError) → ItemOnly text most next r → (x : One) (own : List ℕ) → IsText x own → Others ss next (in_front x (all [])) own → After ss r
     only_one ss next r only x own is h =
         let deep : depth_of x ≤ most = omega (arith, h.deep, deepest-in_front x (all [])) in
-        after ss x (next + length own) r (only x own (41 ∷ rest) h.there is deep (λ e. omega (arith, e))) (λ s end same place. inl (record {
+        after ss x (next + length own) r (only x own (41 ∷ rest) h.there is deep (inr (inl refl))) (λ s end same place. inl (record {
           is = sym (before-none (ss ++ s ∷ [])) ∙ before-more ss s (all []) ∙ ap (λ (o : One). before ss (in_front o (all []))) same ∙ sym h.is;
           bracket = behind_piece text own (41 ∷ rest) next end h.there place;
           place = omega (arith, place, h.place);
@@ -143,7 +144,7 @@ module _ (k : Listing) where
         let tail : List ℕ = others ++ (codes ")" ++ rest) in
         let there : drop next text ≡ own ++ (44 ∷ tail) = h.there ∙ append_assoc own (codes "," ++ others) (codes ")" ++ rest) in
         let deep : (depth_of x ≤ most) × (deepest_of ys ≤ most) = (omega (arith, h.deep, deepest-in_front x ys), omega (arith, h.deep, deepest-in_front x ys)) in
-        after ss x (next + length own) r (only x own (44 ∷ tail) there is deep.0 (λ e. omega (arith, e))) (λ s end same place.
+        after ss x (next + length own) r (only x own (44 ∷ tail) there is deep.0 (inl refl)) (λ s end same place.
         let comma = behind_piece text own (44 ∷ tail) next end there place in
         let here : Others (ss ++ s ∷ []) (end + 1) ys others = record {
           is = h.is ∙ ap (λ (o : One). before ss (in_front o ys)) (sym same) ∙ sym (before-more ss s ys);

@@ -1,11 +1,13 @@
 -- A variant of a union and a member of a tagged structure, part by part: a number, perhaps a mark, a colon and a shape.
-use Rattle.std.proofs.Common.{◌≡◌, ℕ, ◌+◌, ◌<◌, ◌≤◌, Bool, true, false, Result, Ok, List, ◌∷◌, ◌++◌, length, drop, slice_range, codes, refl, ap, ◌∙◌, append_assoc, arith}
+use Rattle.std.proofs.Common.{◌≡◌, ℕ, ◌+◌, ◌<◌, ◌≤◌, ◌^◌, Option, Bool, true, false, Result, Ok, List, ◌∷◌, ◌++◌, length, drop, slice_range, codes, refl, ap, ◌∙◌, append_assoc, arith}
 use Rattle.std.specs.Fmt.{decimal}
 use Rattle.std.proofs.lemmas.List.{length-append}
 use Rattle.someip_payload.specs.declared.shape_text_error.ShapeTextError.{ShapeTextError}
-use Rattle.someip_payload.specs.ShapeText.{IsDigit, mark_text, tagged_member_text}
-use Rattle.someip_payload.proofs.Converse.{behind_piece, same_first, same_second, NumberOnly}
+use Rattle.someip_payload.specs.ShapeText.{IsDigit, BeginsNoName, mark_text, name_text, tagged_member_text}
+use Rattle.someip_payload.proofs.Converse.{same_first, same_second, NumberOnly}
+use Rattle.someip_payload.proofs.Places.{behind_piece}
 use Rattle.someip_payload.proofs.ConverseParts.{no_digit_mark, no_digit_colon}
+use Rattle.someip_payload.proofs.Decimals.{number_first}
 use Rattle.someip_payload.proofs.Pieces.{slice_range-append, slice_range-empty}
 
 -- what stands after a number is no digit
@@ -64,3 +66,14 @@ member_piece text id optional at behind colon first end le le2 le3 le4 number ma
 pub variant_piece : (text : List ℕ) (n at colon first end : ℕ) → at ≤ colon → colon ≤ first → first ≤ end → slice_range text at colon ≡ decimal n → slice_range text colon first ≡ codes ":"
     → slice_range text at end ≡ decimal n ++ (codes ":" ++ slice_range text first end)
 variant_piece text n at colon first end le le2 le3 number is = member_piece text n false at colon colon first end le (omega arith) le2 le3 number (slice_range-empty text colon) is
+
+-- ---- a member of a tagged structure, perhaps with a name
+
+pub tagged_there : (text front rest : List ℕ) (name : Option (List ℕ)) (id : ℕ) (optional : Bool) (shape : List ℕ) (at : ℕ) → drop at text ≡ front ++ rest → front ≡ name_text name ++ tagged_member_text id optional shape
+    → drop at text ≡ name_text name ++ (tagged_member_text id optional shape ++ rest)
+tagged_there text front rest name id optional shape at is parts =
+    is ∙ ap (λ (t : List ℕ). t ++ rest) parts ∙ append_assoc (name_text name) (tagged_member_text id optional shape) rest
+
+-- its number begins no name
+pub tagged_first : (id : ℕ) (optional : Bool) (shape rest : List ℕ) → id < 2 ^ 12 → BeginsNoName (tagged_member_text id optional shape ++ rest)
+tagged_first id optional shape rest small = number_first id (mark_text optional ++ (codes ":" ++ shape)) rest (omega (arith, small))

@@ -1,2 +1,3 @@
+pub mod Fronts
 pub mod ShapeText
 pub mod Words

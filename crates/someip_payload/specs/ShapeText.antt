@@ -1,8 +1,11 @@
 -- The texts of shapes.
-use Rattle.std.specs.Prelude.{◌≡◌, ℕ, ◌<◌, ◌≤◌, ◌^◌, ⊤, Bool, true, false, List, [], ◌∷◌, ◌++◌, Option, Some, None, Result, Ok, Err, codes}
+use Rattle.std.specs.Prelude.{◌≡◌, ℕ, ◌<◌, ◌≤◌, ◌^◌, ⊤, ◌⊎◌, max, nat_lt, if◌then◌else◌, Bool, true, false, List, [], ◌∷◌, ◌++◌, Option, Some, None, Result, Ok, Err, codes}
 use Rattle.std.specs.Fmt.{decimal}
-use Rattle.someip_payload_values.specs.Data.{Form, bool, u8, u16, u32, u64, i8, i16, i32, i64, string, array, fixed, «struct», union, tagged, Forms, no_forms, form_then, Variants, no_variants, variant, Members, no_members, member_then}
+use Rattle.someip_payload_values.specs.Check.{is_first, is_later, is_name}
+use Rattle.someip_payload_values.specs.Data.{Form, bool, unsigned, signed, u8, u16, u32, u64, i8, i16, i32, i64, string, padded, array, fixed, «struct», union, tagged, named, Forms, no_forms, form_then, Variants, no_variants, variant, Members, no_members, member_then}
 use Rattle.someip_payload_values.specs.View.{OneMember, form}
+use Rattle.someip_payload_values.specs.declared.number.Order.TheVariants.{Little}
+use Rattle.someip_payload_values.specs.declared.number.Size.TheVariants.{S16, S32, S64}
 use Rattle.someip_payload_values.specs.declared.shape.Shape.{Shape}
 use Rattle.someip_payload_values.specs.declared.shape.Encoding.TheVariants.{Utf8, Utf16}
 use Rattle.someip_payload_values.specs.declared.shape.Width.{Width}
@@ -22,6 +25,20 @@ abbrev pub or_32 : Option Width → Width
 or_32 None = W32
 or_32 (Some w) = w
 
+-- the widths of a union's length field and type field as they are written, or nothing
+abbrev pub widths_text : Option (Width × Width) → List ℕ
+widths_text None = []
+widths_text (Some ws) = width_text (Some ws.0) ++ width_text (Some ws.1)
+
+-- a union with these widths, or with those that are meant where nothing is written
+abbrev pub union_of : Option (Width × Width) → Variants → Form
+union_of None vs = union W32 W32 vs
+union_of (Some ws) vs = union ws.0 ws.1 vs
+
+-- a number in angle brackets
+abbrev pub room_text : ℕ → List ℕ
+room_text n = codes "<" ++ (decimal n ++ codes ">")
+
 -- a number of repetitions, and what is repeated
 abbrev pub repeated_text : ℕ → List ℕ → List ℕ
 repeated_text n element = codes "<" ++ (decimal n ++ (codes "," ++ (element ++ codes ">")))
@@ -35,33 +52,67 @@ mark_text false = []
 abbrev pub tagged_member_text : ℕ → Bool → List ℕ → List ℕ
 tagged_member_text id optional text = decimal id ++ (mark_text optional ++ (codes ":" ++ text))
 
+-- a name as it is written, with a colon after it, or nothing
+abbrev pub name_text : Option (List ℕ) → List ℕ
+name_text None = []
+name_text (Some n) = n ++ codes ":"
+
+-- the form with the name, if there is one
+abbrev pub with_name : Option (List ℕ) → Form → Form
+with_name None f = f
+with_name (Some n) f = named n f
+
+-- it is a name, if there is one
+abbrev pub IsNameIfAny : Option (List ℕ) → Type 0
+IsNameIfAny None = ⊤
+IsNameIfAny (Some n) = is_name n ≡ true
+
+-- the word of an integer
+pub data IsInteger : Form → List ℕ → Type 0 where
+  u8_text : IsInteger u8 (codes "u8")
+  u16_text : IsInteger u16 (codes "u16")
+  u32_text : IsInteger u32 (codes "u32")
+  u64_text : IsInteger u64 (codes "u64")
+  i8_text : IsInteger i8 (codes "i8")
+  i16_text : IsInteger i16 (codes "i16")
+  i32_text : IsInteger i32 (codes "i32")
+  i64_text : IsInteger i64 (codes "i64")
+  u16le_text : IsInteger (unsigned Little S16) (codes "u16le")
+  u32le_text : IsInteger (unsigned Little S32) (codes "u32le")
+  u64le_text : IsInteger (unsigned Little S64) (codes "u64le")
+  i16le_text : IsInteger (signed Little S16) (codes "i16le")
+  i32le_text : IsInteger (signed Little S32) (codes "i32le")
+  i64le_text : IsInteger (signed Little S64) (codes "i64le")
+
 mutual
   -- the form has the text. A number has 32 bits.
   pub data IsTextOf : Form → List ℕ → Type 0 where
     bool_text : IsTextOf bool (codes "bool")
-    u8_text : IsTextOf u8 (codes "u8")
-    u16_text : IsTextOf u16 (codes "u16")
-    u32_text : IsTextOf u32 (codes "u32")
-    u64_text : IsTextOf u64 (codes "u64")
-    i8_text : IsTextOf i8 (codes "i8")
-    i16_text : IsTextOf i16 (codes "i16")
-    i32_text : IsTextOf i32 (codes "i32")
-    i64_text : IsTextOf i64 (codes "i64")
+    integer_text : (f : Form) (text : List ℕ) → IsInteger f text → IsTextOf f text
     utf8_text : (w : Option Width) → IsTextOf (string Utf8 (or_32 w)) (codes "utf8" ++ width_text w)
     utf16_text : (w : Option Width) → IsTextOf (string Utf16 (or_32 w)) (codes "utf16" ++ width_text w)
+    utf8fix_text : (n : ℕ) → n < 2 ^ 32 → IsTextOf (padded Utf8 n) (codes "utf8fix" ++ room_text n)
+    utf16fix_text : (n : ℕ) → n < 2 ^ 32 → IsTextOf (padded Utf16 n) (codes "utf16fix" ++ room_text n)
     array_text : (w : Option Width) (n : ℕ) (f : Form) (text : List ℕ) → n < 2 ^ 32 → IsTextOf f text
         → IsTextOf (array (or_32 w) n f) (codes "array" ++ (width_text w ++ repeated_text n text))
-    fixed_text : (n : ℕ) (f : Form) (text : List ℕ) → n < 2 ^ 32 → IsTextOf f text → IsTextOf (fixed n f) (codes "fixed" ++ repeated_text n text)
+    fixed_text : (w : Option Width) (n : ℕ) (f : Form) (text : List ℕ) → n < 2 ^ 32 → IsTextOf f text
+        → IsTextOf (fixed w n f) (codes "fixed" ++ (width_text w ++ repeated_text n text))
     struct_text : (w : Option Width) (fs : Forms) (text : List ℕ) → IsTextOfMembers fs text
         → IsTextOf («struct» w fs) (codes "struct" ++ (width_text w ++ (codes "(" ++ (text ++ codes ")"))))
-    union_text : (vs : Variants) (text : List ℕ) → IsTextOfVariants vs text → IsTextOf (union vs) (codes "union" ++ (codes "(" ++ (text ++ codes ")")))
+    union_text : (ws : Option (Width × Width)) (vs : Variants) (text : List ℕ) → IsTextOfVariants vs text
+        → IsTextOf (union_of ws vs) (codes "union" ++ (widths_text ws ++ (codes "(" ++ (text ++ codes ")"))))
     tagged_text : (w : Option Width) (ms : Members) (text : List ℕ) → IsTextOfTaggedMembers ms text
         → IsTextOf (tagged (or_32 w) ms) (codes "tagged" ++ (width_text w ++ (codes "(" ++ (text ++ codes ")"))))
 
+  -- a member of a structure: perhaps a name and a colon, and a form
+  pub data IsTextOfMember : Form → List ℕ → Type 0 where
+    member_text : (name : Option (List ℕ)) (f : Form) (text : List ℕ) → IsNameIfAny name → IsTextOf f text
+        → IsTextOfMember (with_name name f) (name_text name ++ text)
+
   -- members, of which there is at least one, with commas between them
   pub data IsTextOfMembers : Forms → List ℕ → Type 0 where
-    last_member : (f : Form) (text : List ℕ) → IsTextOf f text → IsTextOfMembers (form_then f no_forms) text
-    next_member : (f : Form) (fs : Forms) (text others : List ℕ) → IsTextOf f text → IsTextOfMembers fs others
+    last_member : (f : Form) (text : List ℕ) → IsTextOfMember f text → IsTextOfMembers (form_then f no_forms) text
+    next_member : (f : Form) (fs : Forms) (text others : List ℕ) → IsTextOfMember f text → IsTextOfMembers fs others
         → IsTextOfMembers (form_then f fs) (text ++ (codes "," ++ others))
 
   -- variants, of which there is at least one, each after its type number, with commas between them
@@ -70,12 +121,17 @@ mutual
     next_variant : (n : ℕ) (f : Form) (vs : Variants) (text others : List ℕ) → n < 2 ^ 32 → IsTextOf f text → IsTextOfVariants vs others
         → IsTextOfVariants (variant n f vs) ((decimal n ++ (codes ":" ++ text)) ++ (codes "," ++ others))
 
-  -- members of a tagged structure, of which there is at least one, with commas between them. A Data ID has 12 bits.
+  -- a member of a tagged structure: perhaps a name and a colon, its Data ID, perhaps the mark, and a form. A Data ID has 12 bits.
+  pub data IsTextOfTagged : ℕ → Bool → Form → List ℕ → Type 0 where
+    tagged_one : (name : Option (List ℕ)) (id : ℕ) (optional : Bool) (f : Form) (text : List ℕ) → IsNameIfAny name → id < 2 ^ 12 → IsTextOf f text
+        → IsTextOfTagged id optional (with_name name f) (name_text name ++ tagged_member_text id optional text)
+
+  -- members of a tagged structure, of which there is at least one, with commas between them
   pub data IsTextOfTaggedMembers : Members → List ℕ → Type 0 where
-    last_tagged : (id : ℕ) (optional : Bool) (f : Form) (text : List ℕ) → id < 2 ^ 12 → IsTextOf f text
-        → IsTextOfTaggedMembers (member_then id optional f no_members) (tagged_member_text id optional text)
-    next_tagged : (id : ℕ) (optional : Bool) (f : Form) (ms : Members) (text others : List ℕ) → id < 2 ^ 12 → IsTextOf f text → IsTextOfTaggedMembers ms others
-        → IsTextOfTaggedMembers (member_then id optional f ms) (tagged_member_text id optional text ++ (codes "," ++ others))
+    last_tagged : (id : ℕ) (optional : Bool) (f : Form) (text : List ℕ) → IsTextOfTagged id optional f text
+        → IsTextOfTaggedMembers (member_then id optional f no_members) text
+    next_tagged : (id : ℕ) (optional : Bool) (f : Form) (ms : Members) (text others : List ℕ) → IsTextOfTagged id optional f text → IsTextOfTaggedMembers ms others
+        → IsTextOfTaggedMembers (member_then id optional f ms) (text ++ (codes "," ++ others))
 
 -- a variant of a union: its type number and its form
 pub record OneVariant : Type 0 where
@@ -91,7 +147,7 @@ IsTextOfVariant v text = (shape : List ℕ) × (v.number < 2 ^ 32) × IsTextOf v
 
 -- the text of one member of a tagged structure
 abbrev pub IsTextOfTaggedMember : OneMember → List ℕ → Type 0
-IsTextOfTaggedMember m text = (shape : List ℕ) × (m.id < 2 ^ 12) × IsTextOf m.form shape × (text ≡ tagged_member_text m.id m.optional shape)
+IsTextOfTaggedMember m text = IsTextOfTagged m.id m.optional m.form text
 
 -- a fault's place lies between two places; memory may run out at any
 abbrev pub IsFaultWithin : ℕ → ℕ → ShapeTextError → Type 0
@@ -106,6 +162,35 @@ IsDigit b = (48 ≤ b) × (b < 58)
 abbrev pub HasNoWidth : List ℕ → Type 0
 HasNoWidth [] = ⊤
 HasNoWidth (b ∷ rest) = b ≡ 47 → ⊥
+
+-- a name begins here
+abbrev pub begins_name : List ℕ → Bool
+begins_name [] = false
+begins_name (b ∷ rest) = is_first b
+
+abbrev pub BeginsNoName : List ℕ → Type 0
+BeginsNoName text = begins_name text ≡ false
+
+-- a name ends here: no letter, digit or underscore goes on
+abbrev pub EndsName : List ℕ → Type 0
+EndsName [] = ⊤
+EndsName (b ∷ rest) = is_later b ≡ false
+
+-- a word ends here: no letter, digit or underscore goes on, and no colon
+abbrev pub EndsWord : List ℕ → Type 0
+EndsWord [] = ⊤
+EndsWord (b ∷ rest) = (is_later b ≡ false) × (b ≡ 58 → ⊥)
+
+-- a shape ends here: nothing follows, or a comma or a closing bracket
+abbrev pub EndsShape : List ℕ → Type 0
+EndsShape [] = ⊤
+EndsShape (b ∷ rest) = (b ≡ 44) ⊎ ((b ≡ 41) ⊎ (b ≡ 62))
+
+-- what was read, if neither it nor its fault ends before that place
+abbrev pub reach : {X : Type 0} → ℕ → Result (X × ℕ) ShapeTextError → Result (X × ℕ) ShapeTextError
+reach least (Ok x) = if nat_lt x.1 least then Err (BadShape least) else Ok x
+reach least (Err (BadShape place)) = Err (BadShape (max place least))
+reach least (Err OutOfMemory) = Err OutOfMemory
 
 -- this was read, up to that place; memory may run out
 abbrev pub IsReadTo : {X Y : Type 0} → (X → Y) → Y → ℕ → Result (X × ℕ) ShapeTextError → Type 0
@@ -124,7 +209,3 @@ abbrev pub IsRepeatedTo : {X Y : Type 0} → (X → Y) → ℕ → Y → ℕ →
 IsRepeatedTo view n y end (Ok x) = (x.0 ≡ n) × (view x.1 ≡ y) × (x.2 ≡ end)
 IsRepeatedTo view n y end (Err OutOfMemory) = ⊤
 IsRepeatedTo view n y end (Err (BadShape place)) = ⊥
-
--- the text does not begin with the word
-abbrev pub IsNoFront : List ℕ → List ℕ → Type 0
-IsNoFront word text = (rest : List ℕ) → text ≡ word ++ rest → ⊥

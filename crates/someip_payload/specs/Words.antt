@@ -1,59 +1,79 @@
 -- The words that a shape's text begins with.
 use Rattle.std.specs.Prelude.{◌≡◌, ℕ, ◌<◌, ◌^◌, List, [], ◌++◌, Option, codes}
-use Rattle.someip_payload_values.specs.Data.{Form, bool, u8, u16, u32, u64, i8, i16, i32, i64, string, array, fixed, «struct», union, tagged, Forms, Variants, Members}
-use Rattle.someip_payload_values.specs.declared.shape.Encoding.{Encoding}
+use Rattle.someip_payload_values.specs.Data.{Form, bool, unsigned, signed, u8, u16, u32, u64, i8, i16, i32, i64, string, padded, array, fixed, «struct», tagged, Forms, Variants, Members}
+use Rattle.someip_payload_values.specs.declared.number.Order.TheVariants.{Little}
+use Rattle.someip_payload_values.specs.declared.number.Size.TheVariants.{S16, S32, S64}
 use Rattle.someip_payload_values.specs.declared.shape.Encoding.TheVariants.{Utf8, Utf16}
 use Rattle.someip_payload_values.specs.declared.shape.Width.{Width}
-use Rattle.someip_payload.specs.ShapeText.{IsTextOf, IsTextOfMembers, IsTextOfVariants, IsTextOfTaggedMembers, width_text, or_32, repeated_text}
-use Rattle.someip_payload.specs.declared.shape_text.Word.{Word}
-use Rattle.someip_payload.specs.declared.shape_text.Word.TheVariants as word
+use Rattle.someip_payload.specs.ShapeText.{IsTextOf, IsTextOfMembers, IsTextOfVariants, IsTextOfTaggedMembers, width_text, widths_text, or_32, union_of, room_text, repeated_text}
+use Rattle.someip_payload.specs.declared.words.Integer.{Integer}
+use Rattle.someip_payload.specs.declared.words.Integer.TheVariants as integer
+use Rattle.someip_payload.specs.declared.words.Word.{Word}
+use Rattle.someip_payload.specs.declared.words.Word.TheVariants as word
+
+abbrev pub integer_word : Integer → List ℕ
+integer_word integer.U8 = codes "u8"
+integer_word integer.U16 = codes "u16"
+integer_word integer.U32 = codes "u32"
+integer_word integer.U64 = codes "u64"
+integer_word integer.I8 = codes "i8"
+integer_word integer.I16 = codes "i16"
+integer_word integer.I32 = codes "i32"
+integer_word integer.I64 = codes "i64"
+integer_word integer.U16Le = codes "u16le"
+integer_word integer.U32Le = codes "u32le"
+integer_word integer.U64Le = codes "u64le"
+integer_word integer.I16Le = codes "i16le"
+integer_word integer.I32Le = codes "i32le"
+integer_word integer.I64Le = codes "i64le"
+
+abbrev pub integer_form : Integer → Form
+integer_form integer.U8 = u8
+integer_form integer.U16 = u16
+integer_form integer.U32 = u32
+integer_form integer.U64 = u64
+integer_form integer.I8 = i8
+integer_form integer.I16 = i16
+integer_form integer.I32 = i32
+integer_form integer.I64 = i64
+integer_form integer.U16Le = unsigned Little S16
+integer_form integer.U32Le = unsigned Little S32
+integer_form integer.U64Le = unsigned Little S64
+integer_form integer.I16Le = signed Little S16
+integer_form integer.I32Le = signed Little S32
+integer_form integer.I64Le = signed Little S64
 
 abbrev pub word_text : Word → List ℕ
 word_text word.Bool = codes "bool"
-word_text word.U8 = codes "u8"
-word_text word.U16 = codes "u16"
-word_text word.U32 = codes "u32"
-word_text word.U64 = codes "u64"
-word_text word.I8 = codes "i8"
-word_text word.I16 = codes "i16"
-word_text word.I32 = codes "i32"
-word_text word.I64 = codes "i64"
-word_text word.Utf8 = codes "utf8"
-word_text word.Utf16 = codes "utf16"
+word_text (word.Integer i) = integer_word i
+word_text (word.Text Utf8) = codes "utf8"
+word_text (word.Text Utf16) = codes "utf16"
+word_text (word.FixedText Utf8) = codes "utf8fix"
+word_text (word.FixedText Utf16) = codes "utf16fix"
 word_text word.Array = codes "array"
 word_text word.Fixed = codes "fixed"
 word_text word.Struct = codes "struct"
 word_text word.Union = codes "union"
 word_text word.Tagged = codes "tagged"
 
--- the word of a text in the encoding
-abbrev pub word_of : Encoding → Word
-word_of Utf8 = word.Utf8
-word_of Utf16 = word.Utf16
-
 -- what stands after the word in a text of the form
 abbrev pub Behind : Word → Form → List ℕ → Type 0
 Behind word.Bool f back = (f ≡ bool) × (back ≡ [])
-Behind word.U8 f back = (f ≡ u8) × (back ≡ [])
-Behind word.U16 f back = (f ≡ u16) × (back ≡ [])
-Behind word.U32 f back = (f ≡ u32) × (back ≡ [])
-Behind word.U64 f back = (f ≡ u64) × (back ≡ [])
-Behind word.I8 f back = (f ≡ i8) × (back ≡ [])
-Behind word.I16 f back = (f ≡ i16) × (back ≡ [])
-Behind word.I32 f back = (f ≡ i32) × (back ≡ [])
-Behind word.I64 f back = (f ≡ i64) × (back ≡ [])
-Behind word.Utf8 f back = (w : Option Width) × (f ≡ string Utf8 (or_32 w)) × (back ≡ width_text w)
-Behind word.Utf16 f back = (w : Option Width) × (f ≡ string Utf16 (or_32 w)) × (back ≡ width_text w)
+Behind (word.Integer i) f back = (f ≡ integer_form i) × (back ≡ [])
+Behind (word.Text e) f back = (w : Option Width) × (f ≡ string e (or_32 w)) × (back ≡ width_text w)
+Behind (word.FixedText e) f back = (n : ℕ) × (n < 2 ^ 32) × (f ≡ padded e n) × (back ≡ room_text n)
 Behind word.Array f back =
     (w : Option Width) × (n : ℕ) × (g : Form) × (text : List ℕ) × (n < 2 ^ 32) × IsTextOf g text
     × (f ≡ array (or_32 w) n g) × (back ≡ width_text w ++ repeated_text n text)
 Behind word.Fixed f back =
-    (n : ℕ) × (g : Form) × (text : List ℕ) × (n < 2 ^ 32) × IsTextOf g text × (f ≡ fixed n g) × (back ≡ repeated_text n text)
+    (w : Option Width) × (n : ℕ) × (g : Form) × (text : List ℕ) × (n < 2 ^ 32) × IsTextOf g text
+    × (f ≡ fixed w n g) × (back ≡ width_text w ++ repeated_text n text)
 Behind word.Struct f back =
     (w : Option Width) × (fs : Forms) × (text : List ℕ) × IsTextOfMembers fs text
     × (f ≡ «struct» w fs) × (back ≡ width_text w ++ (codes "(" ++ (text ++ codes ")")))
 Behind word.Union f back =
-    (vs : Variants) × (text : List ℕ) × IsTextOfVariants vs text × (f ≡ union vs) × (back ≡ codes "(" ++ (text ++ codes ")"))
+    (ws : Option (Width × Width)) × (vs : Variants) × (text : List ℕ) × IsTextOfVariants vs text
+    × (f ≡ union_of ws vs) × (back ≡ widths_text ws ++ (codes "(" ++ (text ++ codes ")")))
 Behind word.Tagged f back =
     (w : Option Width) × (ms : Members) × (text : List ℕ) × IsTextOfTaggedMembers ms text
     × (f ≡ tagged (or_32 w) ms) × (back ≡ width_text w ++ (codes "(" ++ (text ++ codes ")")))

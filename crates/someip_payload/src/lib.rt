@@ -8,13 +8,15 @@
 //! - [`laws`]: what the definitions behind the contracts promise.
 #![tactic(auto)]
 
+mod names;
 mod shape_text;
 mod shape_text_error;
 mod text_parts;
+mod words;
 
 pub use shape_text::read_shape;
 pub use shape_text_error::ShapeTextError;
 pub use someip_payload_codec::{
-    Encoding, MAX_DEPTH, Member, PayloadError, Shape, Value, Width, check_shape, decode, encode,
-    laws,
+    Encoding, MAX_DEPTH, Member, PayloadError, Shape, Told, Value, Width, check_shape, decode,
+    encode, laws,
 };

@@ -1,17 +1,20 @@
 //! Shapes from their texts.
 
-ghost use Rattle.std.specs.Prelude.{◌≡◌, ◌+◌, ◌<◌, ◌≤◌, ◌^◌, ◌++◌, ℕ, Bool, List, Option, Some, None, Ok, length, drop, slice_range, codes, IfOk, IfErr};
-ghost use Rattle.someip_payload_values.specs.declared.shape.Width.{Width};
-ghost use Rattle.someip_payload.specs.declared.shape_text.Word.{Word};
-ghost use Rattle.someip_payload_values.specs.Data.{Form, Forms, Variants, Members};
-ghost use Rattle.someip_payload_values.specs.Check.{depth, deepest, deepest_variant, deepest_member};
-ghost use Rattle.someip_payload.specs.ShapeText.{IsTextOf, IsTextOfMembers, IsTextOfVariants, OneVariant, one_variant, IsTextOfVariant, IsTextOfTaggedMembers, IsTextOfTaggedMember, IsFaultWithin, HasNoWidth, IsReadAs, IsReadTo, IsRepeatedTo, width_text, or_32, mark_text, repeated_text};
+ghost use Rattle.std.specs.Prelude.{◌≡◌, ◌+◌, ◌<◌, ◌≤◌, ◌^◌, ◌++◌, ℕ, Bool, true, List, Option, Some, None, Ok, length, drop, slice_range, codes, IfOk, IfErr};
+ghost use Rattle.someip_payload.specs.declared.words.Word.{Word};
+ghost use Rattle.someip_payload_values.specs.Data.{Form, named, Forms, Variants, Members};
+ghost use Rattle.someip_payload_values.specs.Check.{is_name, depth, deepest, deepest_variant, deepest_member};
+ghost use Rattle.someip_payload.specs.ShapeText.{IsTextOf, IsTextOfMember, IsTextOfMembers, IsTextOfVariants, OneVariant, one_variant, IsTextOfVariant, IsTextOfTaggedMembers, IsTextOfTaggedMember, IsFaultWithin, EndsShape, IsReadAs, IsReadTo, IsRepeatedTo, reach, mark_text, repeated_text};
 ghost use Rattle.someip_payload_values.specs.View.{form, forms, all_variants, all_members, OneMember, one_member};
-ghost use Rattle.someip_payload.specs.Words.{word_text, word_of, Behind};
+ghost use Rattle.someip_payload.specs.Words.{word_text, Behind};
 
+use crate::names::{has_name, name_at, name_end, name_to, with_name};
 use crate::shape_text_error::ShapeTextError;
-use crate::text_parts::{ReadTo, byte_at, decimal_at, has_comma, word_at};
-use someip_payload_codec::{Encoding, Member, Shape, Width};
+use crate::text_parts::{ReadTo, byte_at, decimal_at, has_byte};
+use crate::words::{
+    Word, first_word, fixed_shape, integer_shape, or_32, union_shape, width_at, widths_at,
+};
+use someip_payload_codec::{Encoding, Member, Shape};
 use std::alloc::Global;
 
 /// How many shapes may lie around a shape in a text.
@@ -22,48 +25,6 @@ const NUMBERS: u64 = 0x1_0000_0000;
 
 /// One more than the largest Data ID.
 const DATA_IDS: u64 = 0x1000;
-
-#[derive(Clone, Copy)]
-enum Word {
-    Bool,
-    U8,
-    U16,
-    U32,
-    U64,
-    I8,
-    I16,
-    I32,
-    I64,
-    Utf8,
-    Utf16,
-    Array,
-    Fixed,
-    Struct,
-    Union,
-    Tagged,
-}
-
-/// What a shape's text begins with. No word begins another one.
-const WORDS: [(&str, Word); 16] = [
-    ("bool", Word::Bool),
-    ("u8", Word::U8),
-    ("u16", Word::U16),
-    ("u32", Word::U32),
-    ("u64", Word::U64),
-    ("i8", Word::I8),
-    ("i16", Word::I16),
-    ("i32", Word::I32),
-    ("i64", Word::I64),
-    ("utf8", Word::Utf8),
-    ("utf16", Word::Utf16),
-    ("array", Word::Array),
-    ("fixed", Word::Fixed),
-    ("struct", Word::Struct),
-    ("union", Word::Union),
-    ("tagged", Word::Tagged),
-];
-
-const WIDTHS: [(&str, Width); 3] = [("/8", Width::W8), ("/16", Width::W16), ("/32", Width::W32)];
 
 /// Reads items with commas between them, up to the bracket after the last: returns them and the
 /// place after it, or the first fault. `$item` reads the item at the place `$next`. It is a macro
@@ -76,7 +37,7 @@ macro_rules! one_after_other {
         loop {
             let (item, end) = $item?;
             items.push(item)?;
-            if has_comma($text, end) {
+            if has_byte(b',', $text, end) {
                 $next = end + 1;
             } else {
                 let end = byte_at(b')', $text, end)?;
@@ -112,7 +73,7 @@ fn shape_at(alloc: Global, text: &[u8], at: usize, left: u32) -> ReadTo<Shape>
     requires { at ≤ length text.now }
     ensures found { IfOk result (λ x. IsTextOf (form x.0) (slice_range text.now at x.1)) }
     ensures only { (f : Form) (front rest : List ℕ) → drop at text.now ≡ front ++ rest
-        → IsTextOf f front → depth f ≤ left → HasNoWidth rest
+        → IsTextOf f front → depth f ≤ left → EndsShape rest
         → IsReadTo form f (at + length front) result }
     ensures within { IfOk result (λ x. depth (form x.0) ≤ left) }
     ensures end { IfOk result (λ x. (at < x.1) × (x.1 ≤ length text.now)) }
@@ -124,16 +85,9 @@ fn shape_at(alloc: Global, text: &[u8], at: usize, left: u32) -> ReadTo<Shape>
     let (word, end) = first_word(text, at)?;
     match word {
         Word::Bool => Ok((Shape::Bool, end)),
-        Word::U8 => Ok((Shape::U8, end)),
-        Word::U16 => Ok((Shape::U16, end)),
-        Word::U32 => Ok((Shape::U32, end)),
-        Word::U64 => Ok((Shape::U64, end)),
-        Word::I8 => Ok((Shape::I8, end)),
-        Word::I16 => Ok((Shape::I16, end)),
-        Word::I32 => Ok((Shape::I32, end)),
-        Word::I64 => Ok((Shape::I64, end)),
-        Word::Utf8 => string_at(Encoding::Utf8, text, end),
-        Word::Utf16 => string_at(Encoding::Utf16, text, end),
+        Word::Integer(integer) => Ok((integer_shape(integer), end)),
+        Word::Text(encoding) => string_at(encoding, text, end),
+        Word::FixedText(encoding) => padded_at(encoding, text, end),
         Word::Array => array_at(alloc, text, end, left - 1),
         Word::Fixed => fixed_at(alloc, text, end, left - 1),
         Word::Struct => struct_at(alloc, text, end, left - 1),
@@ -145,15 +99,31 @@ fn shape_at(alloc: Global, text: &[u8], at: usize, left: u32) -> ReadTo<Shape>
 /// The rest of a shape after the word of an encoding.
 fn string_at(encoding: Encoding, text: &[u8], at: usize) -> ReadTo<Shape>
     requires { at ≤ length text.now }
-    ensures found { IfOk result (λ x. IsTextOf (form x.0) (word_text (word_of encoding) ++ slice_range text.now at x.1)) }
+    ensures found { IfOk result (λ x. IsTextOf (form x.0) (word_text (Word.Text encoding) ++ slice_range text.now at x.1)) }
     ensures only { (f : Form) (back rest : List ℕ) → drop at text.now ≡ back ++ rest
-        → Behind (word_of encoding) f back → HasNoWidth rest → IsReadTo form f (at + length back) result }
+        → Behind (Word.Text encoding) f back → EndsShape rest → IsReadTo form f (at + length back) result }
     ensures within { IfOk result (λ x. depth (form x.0) ≤ 1) }
     ensures end { IfOk result (λ x. (at ≤ x.1) × (x.1 ≤ length text.now)) }
     ensures fault { IfErr result (IsFaultWithin at (length text.now)) }
 {
     let (width, end) = width_at(text, at)?;
     Ok((Shape::Text(encoding, or_32(width)), end))
+}
+
+/// The rest of a shape after the word of a text in so many bytes.
+fn padded_at(encoding: Encoding, text: &[u8], at: usize) -> ReadTo<Shape>
+    requires { at ≤ length text.now }
+    ensures found { IfOk result (λ x. IsTextOf (form x.0) (word_text (Word.FixedText encoding) ++ slice_range text.now at x.1)) }
+    ensures only { (f : Form) (back rest : List ℕ) → drop at text.now ≡ back ++ rest
+        → Behind (Word.FixedText encoding) f back → IsReadTo form f (at + length back) result }
+    ensures within { IfOk result (λ x. depth (form x.0) ≤ 1) }
+    ensures end { IfOk result (λ x. (at ≤ x.1) × (x.1 ≤ length text.now)) }
+    ensures fault { IfErr result (IsFaultWithin at (length text.now)) }
+{
+    let from = byte_at(b'<', text, at)?;
+    let (room, last) = decimal_at(text, from, NUMBERS)?;
+    let end = byte_at(b'>', text, last)?;
+    Ok((Shape::FixedText(encoding, room), end))
 }
 
 /// The rest of a shape after the word `array`.
@@ -185,8 +155,9 @@ fn fixed_at(alloc: Global, text: &[u8], at: usize, left: u32) -> ReadTo<Shape>
     ensures end { IfOk result (λ x. (at ≤ x.1) × (x.1 ≤ length text.now)) }
     ensures fault { IfErr result (IsFaultWithin at (length text.now)) }
 {
-    let (count, element, end) = repeated_at(alloc, text, at, left)?;
-    Ok((Shape::Fixed(count, element), end))
+    let (width, from) = width_at(text, at)?;
+    let (count, element, end) = repeated_at(alloc, text, from, left)?;
+    Ok((fixed_shape(width, count, element), end))
 }
 
 /// A number of repetitions and the shape of what is repeated, in angle brackets.
@@ -247,7 +218,59 @@ fn members_at(alloc: Global, text: &[u8], at: usize, left: u32) -> ReadTo<Vec<Sh
     ensures end { IfOk result (λ x. (at ≤ x.1) × (x.1 ≤ length text.now)) }
     ensures fault { IfErr result (IsFaultWithin at (length text.now)) }
 {
-    one_after_other!(alloc, text, at, |next| shape_at(alloc, text, next, left))
+    one_after_other!(alloc, text, at, |next| member_at(alloc, text, next, left))
+}
+
+/// A member of a structure: perhaps a name and a colon, and a shape. A name that no colon follows is read as
+/// a shape, which has no fault before the name's end, since a longer name could go on with a colon.
+#[cycle(shape)]
+fn member_at(alloc: Global, text: &[u8], at: usize, left: u32) -> ReadTo<Shape>
+    requires { at ≤ length text.now }
+    ensures found { IfOk result (λ x. IsTextOfMember (form x.0) (slice_range text.now at x.1)) }
+    ensures only { (f : Form) (front rest : List ℕ) → drop at text.now ≡ front ++ rest
+        → IsTextOfMember f front → depth f ≤ left → EndsShape rest
+        → IsReadTo form f (at + length front) result }
+    ensures within { IfOk result (λ x. depth (form x.0) ≤ left) }
+    ensures end { IfOk result (λ x. (at < x.1) × (x.1 ≤ length text.now)) }
+    ensures fault { IfErr result (IsFaultWithin at (length text.now)) }
+{
+    let name = name_end(text, at);
+    if has_name(text, at, name) {
+        return named_at(alloc, text, at, name, left);
+    }
+    if left == 0 {
+        return Err(ShapeTextError::BadShape(at));
+    }
+    reach(name, shape_at(alloc, text, at, left))
+}
+
+/// A member of a structure, whose name ends at that place.
+#[cycle(shape)]
+fn named_at(alloc: Global, text: &[u8], at: usize, name_end: usize, left: u32) -> ReadTo<Shape>
+    requires place { (at < name_end) × (name_end ≤ length text.now) }
+    requires name { is_name (slice_range text.now at name_end) ≡ true }
+    ensures found { IfOk result (λ x. IsTextOfMember (form x.0) (slice_range text.now at x.1)) }
+    ensures only { (f : Form) (front rest : List ℕ) → drop name_end text.now ≡ (codes ":" ++ front) ++ rest
+        → IsTextOf f front → depth f ≤ left → EndsShape rest
+        → IsReadTo form (named (slice_range text.now at name_end) f) (name_end + (length front + 1)) result }
+    ensures within { IfOk result (λ x. depth (form x.0) ≤ left) }
+    ensures end { IfOk result (λ x. (at < x.1) × (x.1 ≤ length text.now)) }
+    ensures fault { IfErr result (IsFaultWithin at (length text.now)) }
+{
+    let (name, first) = name_to(alloc, text, at, name_end)?;
+    let (shape, end) = shape_at(alloc, text, first, left)?;
+    Ok((with_name(alloc, Some(name), shape)?, end))
+}
+
+/// What was read, if neither it nor its fault ends before that place.
+fn reach(least: usize, read: ReadTo<Shape>) -> ReadTo<Shape>
+    ensures { result ≡ reach least read }
+{
+    match read {
+        Ok((_, end)) if end < least => Err(ShapeTextError::BadShape(least)),
+        Err(ShapeTextError::BadShape(place)) => Err(ShapeTextError::BadShape(place.max(least))),
+        read => read,
+    }
 }
 
 /// The rest of a shape after the word `union`.
@@ -262,9 +285,10 @@ fn union_at(alloc: Global, text: &[u8], at: usize, left: u32) -> ReadTo<Shape>
     ensures end { IfOk result (λ x. (at ≤ x.1) × (x.1 ≤ length text.now)) }
     ensures fault { IfErr result (IsFaultWithin at (length text.now)) }
 {
-    let first = byte_at(b'(', text, at)?;
+    let (widths, from) = widths_at(text, at)?;
+    let first = byte_at(b'(', text, from)?;
     let (variants, end) = variants_at(alloc, text, first, left)?;
-    Ok((Shape::Union(variants), end))
+    Ok((union_shape(widths, variants), end))
 }
 
 /// Variants with commas between them, and a bracket after the last.
@@ -290,7 +314,7 @@ fn variant_at(alloc: Global, text: &[u8], at: usize, left: u32) -> ReadTo<(u32, 
     requires { at ≤ length text.now }
     ensures found { IfOk result (λ x. IsTextOfVariant (one_variant x.0) (slice_range text.now at x.1)) }
     ensures only { (v : OneVariant) (front rest : List ℕ) → drop at text.now ≡ front ++ rest
-        → IsTextOfVariant v front → depth v.form ≤ left → HasNoWidth rest
+        → IsTextOfVariant v front → depth v.form ≤ left → EndsShape rest
         → IsReadTo one_variant v (at + length front) result }
     ensures within { IfOk result (λ x. depth (one_variant x.0).form ≤ left) }
     ensures end { IfOk result (λ x. (at < x.1) × (x.1 ≤ length text.now)) }
@@ -342,28 +366,30 @@ fn tagged_members_at(alloc: Global, text: &[u8], at: usize, left: u32) -> ReadTo
     )
 }
 
-/// A member of a tagged structure: its Data ID, perhaps a question mark, and its shape.
+/// A member of a tagged structure: perhaps a name and a colon, its Data ID, perhaps a question mark, and its shape.
 #[cycle(shape)]
 fn tagged_member_at(alloc: Global, text: &[u8], at: usize, left: u32) -> ReadTo<Member>
     requires { at ≤ length text.now }
     ensures found { IfOk result (λ x. IsTextOfTaggedMember (one_member x.0) (slice_range text.now at x.1)) }
     ensures only { (m : OneMember) (front rest : List ℕ) → drop at text.now ≡ front ++ rest
-        → IsTextOfTaggedMember m front → depth m.form ≤ left → HasNoWidth rest
+        → IsTextOfTaggedMember m front → depth m.form ≤ left → EndsShape rest
         → IsReadTo one_member m (at + length front) result }
     ensures within { IfOk result (λ x. depth (one_member x.0).form ≤ left) }
     ensures end { IfOk result (λ x. (at < x.1) × (x.1 ≤ length text.now)) }
     ensures fault { IfErr result (IsFaultWithin at (length text.now)) }
 {
-    let (number, behind) = decimal_at(text, at, DATA_IDS)?;
+    let (name, from) = name_at(alloc, text, at)?;
+    let (number, behind) = decimal_at(text, from, DATA_IDS)?;
     let (is_optional, colon) = mark_at(text, behind);
     let first = byte_at(b':', text, colon)?;
     let (shape, end) = shape_at(alloc, text, first, left)?;
+    let named = with_name(alloc, name, shape)?;
     let id = number as u16;
     Ok((
         Member {
             id,
             is_optional,
-            shape,
+            shape: named,
         },
         end,
     ))
@@ -382,38 +408,4 @@ fn mark_at(text: &[u8], at: usize) -> (bool, usize)
     } else {
         (false, at)
     }
-}
-
-/// The width of a length field, where one is written.
-fn width_at(text: &[u8], at: usize) -> ReadTo<Option<Width>>
-    requires { at ≤ length text.now }
-    ensures found { IfOk result (λ x. slice_range text.now at x.1 ≡ width_text x.0) }
-    ensures only { (w : Option Width) (rest : List ℕ) → drop at text.now ≡ width_text w ++ rest
-        → HasNoWidth rest → result ≡ Ok (w, at + length (width_text w)) }
-    ensures end { IfOk result (λ x. (at ≤ x.1) × (x.1 ≤ length text.now)) }
-    ensures fault { IfErr result (IsFaultWithin at (length text.now)) }
-{
-    if text.get(at) != Some(&b'/') {
-        return Ok((None, at));
-    }
-    let (width, end) = word_at(&WIDTHS, text, at)?;
-    Ok((Some(width), end))
-}
-
-fn or_32(width: Option<Width>) -> Width
-    ensures { result ≡ or_32 width }
-{
-    width.unwrap_or(Width::W32)
-}
-
-/// The word that a shape's text begins with, and the place after it.
-fn first_word(text: &[u8], at: usize) -> ReadTo<Word>
-    requires { at ≤ length text.now }
-    ensures found { IfOk result (λ x. slice_range text.now at x.1 ≡ word_text x.0) }
-    ensures only { (w : Word) (rest : List ℕ) → drop at text.now ≡ word_text w ++ rest
-        → result ≡ Ok (w, at + length (word_text w)) }
-    ensures end { IfOk result (λ x. (at < x.1) × (x.1 ≤ length text.now)) }
-    ensures fault { IfErr result (IsFaultWithin at (length text.now)) }
-{
-    word_at(&WORDS, text, at)
 }

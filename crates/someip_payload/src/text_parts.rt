@@ -1,39 +1,44 @@
 //! Parts of the text of a shape: words, numbers and single bytes.
 
-ghost use Rattle.std.specs.Prelude.{◌≡◌, ◌+◌, ◌*◌, ◌<◌, ◌≤◌, ◌^◌, ◌++◌, ◌∷◌, [], ℕ, List, Ok, length, take, drop, slice_range, slice_index, IsTrue, IfOk, IfErr, IfSome, IfNone};
+ghost use Rattle.std.specs.Prelude.{◌≡◌, ◌+◌, ◌*◌, ◌<◌, ◌≤◌, ◌^◌, ◌++◌, ◌∷◌, [], ℕ, List, Ok, false, map, length, drop, slice_range, slice_index, IsTrue, IfOk, IfErr, IfSome, IfNone};
 ghost use Rattle.std.specs.List.{AllByRecursion};
 ghost use Rattle.std.specs.Fmt.{decimal};
-ghost use Rattle.someip_payload.specs.ShapeText.{IsFaultWithin, IsDigit, IsNoFront};
+ghost use Rattle.someip_payload.specs.Fronts.{common, longest, longest_front, is_word};
+ghost use Rattle.someip_payload.specs.ShapeText.{IsFaultWithin, IsDigit};
 
 use crate::shape_text_error::ShapeTextError;
 
 /// What was read and the place after it, or the fault.
 pub(crate) type ReadTo<T> = Result<(T, usize), ShapeTextError>;
 
-/// The word at a place, and the place after it. The fault is at the first byte at which none of
-/// the words goes on.
+/// The word at a place, and the place after it: the longest front that the text has in common with any of
+/// the words has to be one of them. The fault is at the first byte at which none of the words goes on.
 pub(crate) fn word_at<T: Copy>(words: &[(&str, T)], text: &[u8], at: usize) -> ReadTo<T>
     requires { at ≤ length text.now }
     ensures found { (name : T → List ℕ) → AllByRecursion (λ word. word.0.now ≡ name word.1) words.now
         → IfOk result (λ x. slice_range text.now at x.1 ≡ name x.0) }
+    ensures longest { IfOk result (λ x.
+        slice_range text.now at x.1 ≡ longest_front (map (λ word. word.0.now) words.now) (drop at text.now)) }
     ensures end { IfOk result (λ x. (at ≤ x.1) × (x.1 ≤ length text.now)) }
     ensures fault { IfErr result (IsFaultWithin at (length text.now)) }
-    ensures none { IfErr result (λ e.
-        AllByRecursion (λ word. IsNoFront word.0.now (drop at text.now)) words.now) }
+    ensures none { IfErr result (λ e. let texts = map (λ word. word.0.now) words.now in
+        is_word texts (longest_front texts (drop at text.now)) ≡ false) }
 {
     let rest = &text[at..];
+    let count = longest_front(words, rest);
+    let front = &rest[..count];
     for (word, item) in words {
-        let count = common_len(word.as_bytes(), rest);
-        if count == word.len() {
+        if word.as_bytes() == front {
             return Ok((*item, at + count));
         }
     }
-    Err(ShapeTextError::BadShape(at + longest_front(words, rest)))
+    Err(ShapeTextError::BadShape(at + count))
 }
 
 /// How many bytes a text has in common with the word that goes on longest with it.
 fn longest_front<T: Copy>(words: &[(&str, T)], text: &[u8]) -> usize
-    ensures { result ≤ length text.now }
+    ensures most { result ≡ longest (map (λ word. word.0.now) words.now) text.now }
+    ensures bound { result ≤ length text.now }
 {
     let mut most = 0;
     for (word, _) in words {
@@ -44,10 +49,8 @@ fn longest_front<T: Copy>(words: &[(&str, T)], text: &[u8]) -> usize
 
 /// How many bytes two texts have in common at their front.
 fn common_len(a: &[u8], b: &[u8]) -> usize
-    ensures bound_a { result ≤ length a.now }
-    ensures bound_b { result ≤ length b.now }
-    ensures same { take result a.now ≡ take result b.now }
-    ensures most { (rest : List ℕ) → b.now ≡ a.now ++ rest → result ≡ length a.now }
+    ensures same { result ≡ common a.now b.now }
+    ensures bound { result ≤ length b.now }
 {
     let mut count = 0;
     while count < a.len() && count < b.len() && a[count] == b[count] {
@@ -56,11 +59,11 @@ fn common_len(a: &[u8], b: &[u8]) -> usize
     count
 }
 
-pub(crate) fn has_comma(text: &[u8], at: usize) -> bool
-    ensures comma { IsTrue result → (at < length text.now) × (slice_index text.now at ≡ 44) }
-    ensures only { (rest : List ℕ) → drop at text.now ≡ 44 ∷ rest → IsTrue result }
+pub(crate) fn has_byte(byte: u8, text: &[u8], at: usize) -> bool
+    ensures there { IsTrue result → (at < length text.now) × (slice_index text.now at ≡ byte) }
+    ensures only { (rest : List ℕ) → drop at text.now ≡ byte ∷ rest → IsTrue result }
 {
-    text.get(at) == Some(&b',')
+    text.get(at) == Some(&byte)
 }
 
 pub(crate) fn byte_at(byte: u8, text: &[u8], at: usize) -> Result<usize, ShapeTextError>

@@ -4,3 +4,4 @@ pub mod Utf8Texts
 pub mod Utf16Units
 pub mod Utf16Texts
 pub mod TextLemmas
+pub mod PaddedTexts

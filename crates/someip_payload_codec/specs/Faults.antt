@@ -5,19 +5,19 @@ use Rattle.someip_payload_values.specs.declared.error.PayloadError.{PayloadError
 use Rattle.someip_payload_values.specs.declared.error.PayloadError.TheVariants as errors
 use Rattle.someip_payload_values.specs.declared.error.PayloadError.TheVariants.{BadText, NoTerminator, UnknownVariant, LengthMismatch, TooMany, DuplicateMember, WrongWireType, MissingMember}
 use Rattle.someip_payload_values.specs.declared.number.Size.{Size}
-use Rattle.someip_payload_values.specs.declared.number.Size.TheVariants.{S16, S32}
+use Rattle.someip_payload_values.specs.declared.number.Size.TheVariants.{S16}
 use Rattle.someip_payload_values.specs.declared.shape.Width.{Width}
 use Rattle.someip_payload_values.specs.declared.shape.Width.TheVariants.{W32}
 use Rattle.someip_payload_values.specs.declared.shape.Encoding.{Encoding}
 use Rattle.someip_payload_values.specs.declared.tag.WireType.{WireType}
 use Rattle.someip_payload_values.specs.declared.tag.WireType.TheVariants.{Basic, OwnLength, Length}
 use Rattle.someip_payload_values.specs.Check.{checked}
-use Rattle.someip_payload_values.specs.Data.{Form, bool, unsigned, signed, string, array, fixed, «struct», union, tagged, Forms, no_forms, form_then, Variants, no_variants, variant, Members, member_then, Data, Items, Slots, present, absent, count}
+use Rattle.someip_payload_values.specs.Data.{Form, bool, unsigned, signed, string, padded, array, fixed, «struct», union, tagged, named, enumerated, Forms, no_forms, form_then, Variants, no_variants, variant, Members, member_then, Data, Items, Slots, present, absent, count}
 use Rattle.someip_payload_codec.specs.View.{View}
 use Rattle.someip_payload_values.specs.Numbers.{width_of, limit_of, size_of, field_len, number, framed}
 use Rattle.someip_payload_values.specs.Tags.{TaggedItem, items_bytes, tag_number, own_width, has_wire_type, width_in}
 use Rattle.someip_payload_codec.specs.Grammar.{Picks, Each, Reads, SkipsOthers, ReadsItems, has_required}
-use Rattle.someip_payload_codec.specs.Texts.{SpellsText, IsTerminated}
+use Rattle.someip_payload_codec.specs.Texts.{SpellsText, IsTerminated, SpellsPadded, HasTerminator}
 use Rattle.someip_payload_codec.specs.Reading.{short_at, skip}
 
 -- the window of a body that stands after a length field at w
@@ -59,16 +59,24 @@ FaultInNumber len w e = (length w.bytes < len) × (e ≡ short_at w)
 abbrev pub FaultInSize : Size → View → PayloadError → Type 0
 FaultInSize size w e = FaultInNumber (byte_len (width_of size)) w e
 
--- a union's length, of that width, and its type number are next
-abbrev pub HasHead : Width → ℕ → ℕ → View → View → Type 0
-HasHead width len kind w v = (len < limit_of (size_of width)) × (kind < 2 ^ 32) × (w.bytes ≡ number (size_of width) len ++ (number S32 kind ++ v.bytes)) × (v ≡ skip (field_len width + 4) w)
+-- the front of so many bytes has no terminator, or it has one and spells no text
+abbrev pub FaultInPadded : Encoding → ℕ → PayloadError → View → Type 0
+FaultInPadded encoding n e w =
+    FaultInNumber n w e
+    ⊎ ((front : List ℕ) × (rest : List ℕ) × (w.bytes ≡ front ++ rest) × (length front ≡ n)
+    × (((HasTerminator encoding front → ⊥) × (e ≡ NoTerminator w.place))
+    ⊎ (HasTerminator encoding front × ((s : List ℕ) → SpellsPadded encoding s front → ⊥) × (e ≡ BadText w.place))))
+
+-- a union's length and its type number, of these widths, are next
+abbrev pub HasHead : Width → Width → ℕ → ℕ → View → View → Type 0
+HasHead width type len kind w v = (len < limit_of (size_of width)) × (kind < limit_of (size_of type)) × (w.bytes ≡ number (size_of width) len ++ (number (size_of type) kind ++ v.bytes)) × (v ≡ skip (field_len width + field_len type) w)
 
 -- the length or the type number of a union passes the window, none has a length, or the variant is at fault
-abbrev pub FaultInUnion : Width → (ℕ → ℕ → View → Type 0) → View → PayloadError → Type 0
-FaultInUnion width In w e =
+abbrev pub FaultInUnion : Width → Width → (ℕ → ℕ → View → Type 0) → View → PayloadError → Type 0
+FaultInUnion width type In w e =
     FaultInSize (size_of width) w e
-    ⊎ ((field_len width ≤ length w.bytes) × FaultInNumber 4 (skip (field_len width) w) e)
-    ⊎ ((len kind : ℕ) × (v : View) × HasHead width len kind w v × (((kind ≡ 0) × (0 < len) × (e ≡ LengthMismatch w.place)) ⊎ ((0 < kind) × In kind len v)))
+    ⊎ ((field_len width ≤ length w.bytes) × FaultInNumber (field_len type) (skip (field_len width) w) e)
+    ⊎ ((len kind : ℕ) × (v : View) × HasHead width type len kind w v × (((kind ≡ 0) × (0 < len) × (e ≡ LengthMismatch w.place)) ⊎ ((0 < kind) × In kind len v)))
 
 -- an item's tag is next
 abbrev pub HasTag : Bool → WireType → ℕ → View → View → Type 0
@@ -95,15 +103,19 @@ FaultInTagged ms In place e b =
 unfoldable mutual
   -- with a length field of that width, where the form has one
   pub FaultBy : Width → Form → PayloadError → View → Type 0
+  FaultBy width (named n f) e w = FaultBy width f e w
+  FaultBy width (enumerated f labels) e w = FaultBy width f e w
   FaultBy width bool e w = FaultInNumber 1 w e
-  FaultBy width (unsigned size) e w = FaultInSize size w e
-  FaultBy width (signed size) e w = FaultInSize size w e
+  FaultBy width (unsigned order size) e w = FaultInSize size w e
+  FaultBy width (signed order size) e w = FaultInSize size w e
+  FaultBy width (padded encoding n) e w = FaultInPadded encoding n e w
   FaultBy width (string encoding own) e w = FaultInBody width (FaultInText encoding w.place e) w e
   FaultBy width (array own most element) e w = FaultInBody width (FaultInItems (Reads element) (FaultBy (own_width element) element e) most e) w e
-  FaultBy width (fixed n element) e w = FaultInFixed (Reads element) (FaultBy (own_width element) element e) n w
+  FaultBy width (fixed None n element) e w = FaultInFixed (Reads element) (FaultBy (own_width element) element e) n w
+  FaultBy width (fixed (Some own) n element) e w = FaultInBody width (FaultInFixed (Reads element) (FaultBy (own_width element) element e) n) w e
   FaultBy width («struct» None fs) e w = FaultInMembers fs e w
   FaultBy width («struct» (Some own) fs) e w = FaultInBody width (FaultInMembers fs e) w e
-  FaultBy width (union vs) e w = FaultInUnion width (λ kind len v. FaultInVariant vs (w.place + field_len width) e kind len w v) w e
+  FaultBy width (union own type vs) e w = FaultInUnion width type (λ kind len v. FaultInVariant vs (w.place + field_len width) e kind len w v) w e
   FaultBy width (tagged own ms) e w =
       FaultInBody width (FaultInTagged ms (λ ss v. FaultInItem (λ t id u. FaultBehindTag ms ss t id v.place e u) v e) w.place e) w e
 

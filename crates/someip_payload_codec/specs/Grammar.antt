@@ -1,14 +1,14 @@
--- Which bytes are read as which value of a form. A number has its bytes from the highest on, a body stands
+-- Which bytes are read as which value of a form. A number has its bytes in the order of its form, a body stands
 -- after its length, members and elements follow each other, and items of a tagged structure stand in any order.
-use Rattle.std.specs.Prelude.{◌≡◌, ℕ, ◌<◌, ◌≤◌, ◌^◌, ◌==◌, ◌||◌, ◌&&◌, Bool, true, false, List, [], ◌∷◌, ◌++◌, Some, None}
+use Rattle.std.specs.Prelude.{◌≡◌, ℕ, ◌<◌, ◌≤◌, ◌^◌, ◌==◌, ◌||◌, ◌&&◌, Bool, true, false, List, [], ◌∷◌, ◌++◌, length, Some, None}
 use Rattle.std.specs.Int.{cast_unsigned}
 use Rattle.std.specs.Int.RustNames.{FitsSigned}
 use Rattle.someip_payload_values.specs.declared.number.Size.TheVariants.{S8}
 use Rattle.someip_payload_values.specs.declared.shape.Width.{Width}
-use Rattle.someip_payload_values.specs.Data.{Form, bool, unsigned, signed, string, array, fixed, «struct», union, tagged, Forms, no_forms, form_then, Variants, no_variants, variant, Members, no_members, member_then, Data, truth, uint, int, phrase, list, tuple, nothing, chosen, slotted, Items, no_items, item, Slots, no_slots, present, absent, count}
-use Rattle.someip_payload_values.specs.Numbers.{width_of, limit_of, number, typed, is_odd, Framed, Typed, Begins}
+use Rattle.someip_payload_values.specs.Data.{Form, bool, unsigned, signed, string, padded, array, fixed, «struct», union, tagged, named, enumerated, Forms, no_forms, form_then, Variants, no_variants, variant, Members, no_members, member_then, Data, truth, uint, int, phrase, list, tuple, nothing, chosen, slotted, Items, no_items, item, Slots, no_slots, present, absent, count}
+use Rattle.someip_payload_values.specs.Numbers.{width_of, limit_of, size_of, number, number_in, typed, is_odd, Framed, Typed, Begins}
 use Rattle.someip_payload_values.specs.Tags.{TaggedItem, items_bytes, with_id, Skips, own_width, has_wire_type, width_in}
-use Rattle.someip_payload_codec.specs.Texts.{SpellsText}
+use Rattle.someip_payload_codec.specs.Texts.{SpellsText, SpellsPadded}
 
 -- one after the other, each of the same kind
 abbrev pub Each : (Data → List ℕ → Type 0) → Items → List ℕ → Type 0
@@ -42,16 +42,20 @@ has_required (member_then id optional f ms) (absent ss) = optional && has_requir
 unfoldable mutual
   -- these bytes are read as this value of the form, with a length field of that width where it has one
   pub ReadsBy : Width → Form → Data → List ℕ → Type 0
+  ReadsBy width (named n f) d bytes = ReadsBy width f d bytes
+  ReadsBy width (enumerated f labels) d bytes = ReadsBy width f d bytes
   ReadsBy width bool (truth b) bytes = (n : ℕ) × (n < 2 ^ 8) × (bytes ≡ number S8 n) × (b ≡ is_odd n)
-  ReadsBy width (unsigned size) (uint n) bytes = (n < limit_of size) × (bytes ≡ number size n)
-  ReadsBy width (signed size) (int z) bytes = FitsSigned (width_of size) z × (bytes ≡ number size (cast_unsigned (width_of size) z))
+  ReadsBy width (unsigned order size) (uint n) bytes = (n < limit_of size) × (bytes ≡ number_in order size n)
+  ReadsBy width (signed order size) (int z) bytes = FitsSigned (width_of size) z × (bytes ≡ number_in order size (cast_unsigned (width_of size) z))
   ReadsBy width (string encoding own) (phrase s) bytes = Framed width (SpellsText encoding s) bytes
+  ReadsBy width (padded encoding n) (phrase s) bytes = (length bytes ≡ n) × SpellsPadded encoding s bytes
   ReadsBy width (array own max element) (list ds) bytes = (count ds ≤ max) × Framed width (Each (ReadsBy (own_width element) element) ds) bytes
-  ReadsBy width (fixed n element) (list ds) bytes = (count ds ≡ n) × Each (ReadsBy (own_width element) element) ds bytes
+  ReadsBy width (fixed None n element) (list ds) bytes = (count ds ≡ n) × Each (ReadsBy (own_width element) element) ds bytes
+  ReadsBy width (fixed (Some own) n element) (list ds) bytes = (count ds ≡ n) × Framed width (Begins (Each (ReadsBy (own_width element) element) ds)) bytes
   ReadsBy width («struct» None fs) (tuple ds) bytes = ReadsMembers fs ds bytes
   ReadsBy width («struct» (Some own) fs) (tuple ds) bytes = Framed width (Begins (ReadsMembers fs ds)) bytes
-  ReadsBy width (union vs) nothing bytes = bytes ≡ typed width 0 []
-  ReadsBy width (union vs) (chosen kind d) bytes = (0 < kind) × (kind < 2 ^ 32) × Typed width kind (Begins (ReadsVariant vs kind d)) bytes
+  ReadsBy width (union own type vs) nothing bytes = bytes ≡ typed width type 0 []
+  ReadsBy width (union own type vs) (chosen kind d) bytes = (0 < kind) × (kind < limit_of (size_of type)) × Typed width type kind (Begins (ReadsVariant vs kind d)) bytes
   ReadsBy width (tagged own ms) (slotted ss) bytes =
       Framed width (λ body. (items : List TaggedItem) × (body ≡ items_bytes items) × ReadsItems ms ss items × SkipsOthers ms items) bytes × (has_required ms ss ≡ true)
   ReadsBy width _ _ bytes = ⊥

@@ -1,12 +1,14 @@
 -- Reading from left to right, with the first fault that is met.
 use Rattle.std.specs.Prelude.{ℕ, zero, suc, ◌+◌, ◌-◌, ◌*◌, ◌==◌, ◌&&◌, not, Bool, ℤ, List, [], ◌∷◌, length, take, drop, slice_index, Some, None, Result, Ok, Err, nat_lt, if◌then◌else◌, false, true}
-use Rattle.std.specs.Int.{byte_len, from_be_bytes, cast_signed}
+use Rattle.std.specs.Int.{byte_len, from_be_bytes, from_le_bytes, cast_signed}
 use Rattle.std.specs.Str.{is_utf8, encode_utf8_all}
 use Rattle.std.specs.Char.Utf16.{has_unpaired_surrogate, utf16_lossy_chars}
 use Rattle.someip_payload_values.specs.declared.error.PayloadError.{PayloadError}
 use Rattle.someip_payload_values.specs.declared.error.PayloadError.TheVariants.{Truncated, BadText, NoTerminator, UnknownVariant, LengthMismatch, TooMany, DuplicateMember, WrongWireType, MissingMember}
+use Rattle.someip_payload_values.specs.declared.number.Order.{Order}
+use Rattle.someip_payload_values.specs.declared.number.Order.TheVariants.{Big, Little}
 use Rattle.someip_payload_values.specs.declared.number.Size.{Size}
-use Rattle.someip_payload_values.specs.declared.number.Size.TheVariants.{S8, S16, S32}
+use Rattle.someip_payload_values.specs.declared.number.Size.TheVariants.{S8, S16}
 use Rattle.someip_payload_values.specs.declared.shape.Width.{Width}
 use Rattle.someip_payload_values.specs.declared.shape.Width.TheVariants.{W32}
 use Rattle.someip_payload_values.specs.declared.tag.WireType.{WireType}
@@ -20,7 +22,7 @@ use Rattle.someip_payload_values.specs.Numbers.{width_of, size_of, is_odd}
 use Rattle.someip_payload_values.specs.Tags.{own_width, has_wire_type, width_in, tag_in}
 use Rattle.someip_payload_codec.specs.Grammar.{has_required}
 use Rattle.someip_payload_values.specs.Texts.{utf16_mark}
-use Rattle.someip_payload_values.specs.Data.{Form, bool, unsigned, signed, string, array, fixed, «struct», union, tagged, Forms, no_forms, form_then, Variants, no_variants, variant, Members, no_members, member_then, Data, truth, uint, int, phrase, list, tuple, nothing, chosen, slotted, Items, no_items, item, Slots, no_slots, present, absent}
+use Rattle.someip_payload_values.specs.Data.{Form, bool, unsigned, signed, string, padded, array, fixed, «struct», union, tagged, named, enumerated, Forms, no_forms, form_then, Variants, no_variants, variant, Members, no_members, member_then, Data, truth, uint, int, phrase, list, tuple, nothing, chosen, slotted, Items, no_items, item, Slots, no_slots, present, absent}
 use Rattle.someip_payload_codec.specs.View.{View}
 
 -- the fault that something passes the window's end
@@ -35,11 +37,20 @@ skip n w = record { is_body = w.is_body; place = w.place + n; bytes = drop n w.b
 abbrev pub front_at : ℕ → View → Result (List ℕ × View) PayloadError
 front_at n w = if nat_lt (length w.bytes) n then Err (short_at w) else Ok (take n w.bytes, skip n w)
 
--- the number of a size, and what is left after it
-unfoldable pub number_at : Size → View → Result (ℕ × View) PayloadError
-number_at size w = do
+-- the number that bytes make in an order
+abbrev pub number_of : Order → Size → List ℕ → ℕ
+number_of Big size bytes = from_be_bytes (width_of size) bytes
+number_of Little size bytes = from_le_bytes (width_of size) bytes
+
+-- the number of a size in an order of its bytes, and what is left after it
+unfoldable pub ordered_at : Order → Size → View → Result (ℕ × View) PayloadError
+ordered_at order size w = do
   front ← front_at (byte_len (width_of size)) w
-  Ok (from_be_bytes (width_of size) front.0, front.1)
+  Ok (number_of order size front.0, front.1)
+
+-- the same from the highest byte on, as length fields, type numbers and tags are
+abbrev pub number_at : Size → View → Result (ℕ × View) PayloadError
+number_at size w = ordered_at Big size w
 
 -- the signed number that a number of the size stands for in two's complement
 abbrev pub signed_of : Size → ℕ → ℤ
@@ -106,6 +117,16 @@ unfoldable pub text_at : Encoding → ℕ → List ℕ → Result (List ℕ) Pay
 text_at Utf8 place body = utf8_at place body
 text_at Utf16 place body = utf16_in place (units_of (not (is_little body)) body)
 
+-- the units up to the first zero, with it
+unfoldable pub through_zero : List ℕ → List ℕ
+through_zero [] = []
+through_zero (x ∷ xs) = if x == 0 then x ∷ [] else x ∷ through_zero xs
+
+-- the text of a window of so many bytes, which ends at its first zero character; the window stands at the place
+unfoldable pub padded_at : Encoding → ℕ → List ℕ → Result (List ℕ) PayloadError
+padded_at Utf8 place bytes = utf8_at place (through_zero bytes)
+padded_at Utf16 place bytes = utf16_in place (through_zero (units_of (not (is_little bytes)) bytes))
+
 -- at most so many elements, until the bytes are used up
 unfoldable pub items_at : (View → Result (Data × View) PayloadError) → ℕ → View → Result Items PayloadError
 items_at one zero w = if nat_lt 0 (length w.bytes) then Err (TooMany w.place) else Ok no_items
@@ -119,11 +140,11 @@ unfoldable pub fixed_at : (View → Result (Data × View) PayloadError) → ℕ 
 fixed_at one zero w = Ok (no_items, w)
 fixed_at one (suc left) w = one w >>= λ first. fixed_at one left first.1 >>= λ others. Ok (item first.0 others.0, others.1)
 
--- what stands after the length, of that width, and the type number of a union
-unfoldable pub union_at : Width → (ℕ → ℕ → ℕ → View → Result (Data × View) PayloadError) → View → Result (Data × View) PayloadError
-union_at width known w = do
+-- what stands after the length and the type number of a union, of these widths
+unfoldable pub union_at : Width → Width → (ℕ → ℕ → ℕ → View → Result (Data × View) PayloadError) → View → Result (Data × View) PayloadError
+union_at width type known w = do
   len ← number_at (size_of width) w
-  kind ← number_at S32 len.1
+  kind ← number_at (size_of type) len.1
   if kind.0 == 0 then (if len.0 == 0 then Ok (nothing, kind.1) else Err (LengthMismatch w.place)) else known kind.0 len.0 len.1.place kind.1
 
 -- the value of a union whose variant is read so, which begins at w and whose body at v
@@ -169,15 +190,19 @@ member_at one f tag place w = if has_wire_type f tag.wire_type then one (width_i
 unfoldable mutual
   -- a value of the form, with a length field of that width where it has one
   pub data_by : Width → Form → View → Result (Data × View) PayloadError
+  data_by width (named n f) w = data_by width f w
+  data_by width (enumerated f labels) w = data_by width f w
   data_by width bool w = number_at S8 w >>= λ n. Ok (truth (is_odd n.0), n.1)
-  data_by width (unsigned size) w = number_at size w >>= λ n. Ok (uint n.0, n.1)
-  data_by width (signed size) w = number_at size w >>= λ n. Ok (int (signed_of size n.0), n.1)
+  data_by width (unsigned order size) w = ordered_at order size w >>= λ n. Ok (uint n.0, n.1)
+  data_by width (signed order size) w = ordered_at order size w >>= λ n. Ok (int (signed_of size n.0), n.1)
   data_by width (string encoding own) w = body_at width w >>= λ body. text_at encoding w.place body.0.bytes >>= λ s. Ok (phrase s, body.1)
+  data_by width (padded encoding n) w = front_at n w >>= λ front. padded_at encoding w.place front.0 >>= λ s. Ok (phrase s, front.1)
   data_by width (array own most element) w = body_at width w >>= λ body. items_at (data_by (own_width element) element) most body.0 >>= λ items. Ok (list items, body.1)
-  data_by width (fixed n element) w = fixed_at (data_by (own_width element) element) n w >>= λ items. Ok (list items.0, items.1)
+  data_by width (fixed None n element) w = fixed_at (data_by (own_width element) element) n w >>= λ items. Ok (list items.0, items.1)
+  data_by width (fixed (Some own) n element) w = body_at width w >>= λ body. fixed_at (data_by (own_width element) element) n body.0 >>= λ items. Ok (list items.0, body.1)
   data_by width («struct» None fs) w = members_at fs w >>= λ members. Ok (tuple members.0, members.1)
   data_by width («struct» (Some own) fs) w = body_at width w >>= λ body. members_at fs body.0 >>= λ members. Ok (tuple members.0, body.1)
-  data_by width (union vs) w = union_at width (λ kind len place v. variant_at vs kind len place w v) w
+  data_by width (union own type vs) w = union_at width type (λ kind len place v. variant_at vs kind len place w v) w
   data_by width (tagged own ms) w =
       body_at width w >>= λ body. tagged_at (item_by (slots_at ms)) (length body.0.bytes) (all_absent ms) body.0
       >>= λ ss. required_at ms w.place ss >>= λ whole. Ok (slotted whole, body.1)

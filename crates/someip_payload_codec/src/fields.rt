@@ -5,14 +5,14 @@
 //! come any number of times.
 
 ghost use Rattle.std.specs.Prelude.{◌≡◌, ◌+◌, ◌<◌, length, IfOk};
-ghost use Rattle.std.specs.Int.{byte_len, from_be_bytes};
+ghost use Rattle.std.specs.Int.{byte_len, from_be_bytes, from_le_bytes};
 ghost use Rattle.someip_payload_values.specs.Numbers.{limit_of, width_of};
 ghost use Rattle.someip_payload_values.specs.Steps.{Gives};
 ghost use Rattle.someip_payload_codec.specs.View.{seen};
-ghost use Rattle.someip_payload_codec.specs.Reading.{short_at, front_at, number_at, window_at, body_at, tag_at, skip_at};
+ghost use Rattle.someip_payload_codec.specs.Reading.{short_at, front_at, ordered_at, number_at, window_at, body_at, tag_at, skip_at};
 
 use crate::window::Window;
-use someip_payload_values::{PayloadError, Size, Tag, Width, WireType, size_of, tag_in};
+use someip_payload_values::{Order, PayloadError, Size, Tag, Width, WireType, size_of, tag_in};
 
 /// Something at the front passes the end of the window.
 pub(crate) fn short(window: Window<'_>) -> PayloadError
@@ -25,7 +25,8 @@ pub(crate) fn short(window: Window<'_>) -> PayloadError
     }
 }
 
-fn front(window: Window<'_>, count: usize) -> Result<(&[u8], Window<'_>), PayloadError>
+/// So many bytes at the front.
+pub(crate) fn front(window: Window<'_>, count: usize) -> Result<(&[u8], Window<'_>), PayloadError>
     ensures exact { Gives (λ x. (x.0.now, seen x.1)) result (front_at count (seen window.entry)) }
     ensures len { IfOk result (λ x. length x.0.now ≡ count) }
 {
@@ -43,13 +44,30 @@ fn front(window: Window<'_>, count: usize) -> Result<(&[u8], Window<'_>), Payloa
     ))
 }
 
-#[tactic(auto, unfolding(crate::specs::Reading::number_at))]
+/// The number of a size, from its highest byte on.
 pub(crate) fn number(size: Size, window: Window<'_>) -> Result<(u64, Window<'_>), PayloadError>
     ensures exact { Gives (λ x. (x.0, seen x.1)) result (number_at size (seen window.entry)) }
     ensures below { IfOk result (λ x. x.0 < limit_of size) }
 {
+    ordered(Order::Big, size, window)
+}
+
+/// The number of a size, in an order of its bytes.
+#[tactic(auto, unfolding(crate::specs::Reading::ordered_at))]
+pub(crate) fn ordered(
+    order: Order,
+    size: Size,
+    window: Window<'_>,
+) -> Result<(u64, Window<'_>), PayloadError>
+    ensures exact { Gives (λ x. (x.0, seen x.1)) result (ordered_at order size (seen window.entry)) }
+    ensures below { IfOk result (λ x. x.0 < limit_of size) }
+{
     let (bytes, rest) = front(window, byte_len(size))?;
-    Ok((number_of(size, bytes), rest))
+    let number = match order {
+        Order::Big => big_endian(size, bytes),
+        Order::Little => little_endian(size, bytes),
+    };
+    Ok((number, rest))
 }
 
 /// How many bytes a number of this size has.
@@ -64,8 +82,24 @@ fn byte_len(size: Size) -> usize
     }
 }
 
-/// The number that has these bytes.
-fn number_of(size: Size, bytes: &[u8]) -> u64
+/// The number that has these bytes, from its lowest on.
+fn little_endian(size: Size, bytes: &[u8]) -> u64
+    requires { length bytes.now ≡ byte_len (width_of size) }
+    ensures exact { result ≡ from_le_bytes (width_of size) bytes.now }
+    ensures below { result < limit_of size }
+{
+    match size {
+        Size::S8 => u64::from(bytes[0]),
+        Size::S16 => u64::from(u16::from_le_bytes([bytes[0], bytes[1]])),
+        Size::S32 => u64::from(u32::from_le_bytes([bytes[0], bytes[1], bytes[2], bytes[3]])),
+        Size::S64 => u64::from_le_bytes([
+            bytes[0], bytes[1], bytes[2], bytes[3], bytes[4], bytes[5], bytes[6], bytes[7],
+        ]),
+    }
+}
+
+/// The number that has these bytes, from its highest on.
+fn big_endian(size: Size, bytes: &[u8]) -> u64
     requires { length bytes.now ≡ byte_len (width_of size) }
     ensures exact { result ≡ from_be_bytes (width_of size) bytes.now }
     ensures below { result < limit_of size }

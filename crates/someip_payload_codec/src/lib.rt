@@ -21,5 +21,5 @@ mod window;
 
 pub use reading::decode;
 pub use someip_payload_values::{
-    Encoding, MAX_DEPTH, Member, PayloadError, Shape, Value, Width, check_shape, encode,
+    Encoding, MAX_DEPTH, Member, PayloadError, Shape, Told, Value, Width, check_shape, encode,
 };

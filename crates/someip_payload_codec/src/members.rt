@@ -35,7 +35,11 @@ pub(crate) fn empty_slots(
 ) -> Result<Vec<Option<Value>>, AllocError>
     ensures { IfOk result (λ slots. slots.items ≡ map (λ _. None) members.now) }
 {
-    members.iter().map(|_| None).collect(alloc)
+    let mut slots = Vec::with_capacity(alloc, members.len())?;
+    for _ in 0..members.len() {
+        slots.push(None)?;
+    }
+    Ok(slots)
 }
 
 /// Whether each member that is absent is optional.

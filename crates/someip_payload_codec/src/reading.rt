@@ -3,7 +3,7 @@
 ghost use Rattle.std.specs.Prelude.{◌≡◌, ◌≤◌, ◌<◌, ℕ, take, length, Some, None, IfOk, IfErr, Ok, Err};
 ghost use Rattle.std.specs.Int.{cast_signed};
 ghost use Rattle.someip_payload_values.specs.Numbers.{width_of, limit_of};
-ghost use Rattle.someip_payload_values.specs.Data.{unsigned, signed, bool, string, array, fixed, «struct», tagged, Data};
+ghost use Rattle.someip_payload_values.specs.Data.{unsigned, signed, bool, string, padded, array, fixed, «struct», tagged, Data};
 ghost use Rattle.someip_payload_values.specs.Check.{checked};
 ghost use Rattle.someip_payload_codec.specs.Faults.{FaultIn, IsFirstFault, IsReadingFault, whole};
 ghost use Rattle.someip_payload_codec.specs.Grammar.{Reads};
@@ -13,13 +13,13 @@ ghost use Rattle.someip_payload_values.specs.Steps.{Gives};
 ghost use Rattle.someip_payload_codec.specs.Reading.{decoded, data_at, data_by, items_at, fixed_at, members_at, union_at, chosen_at, variant_at, member_at, tagged_at, item_at, all_absent};
 ghost use Rattle.someip_payload_codec.specs.Indexes.{HasIndexes, Fills};
 
-use crate::fields::{body, number, sized, skipped, tag};
+use crate::fields::{body, front, number, ordered, sized, skipped, tag};
 use crate::members::{empty_slots, have_required, indexes_of};
-use crate::text::text;
+use crate::text::{padded, text};
 use crate::window::Window;
 use someip_payload_values::{
-    Encoding, Member, PayloadError, Shape, Size, Tag, Value, Width, check_shape, has_wire_type,
-    own_width, size_of, width_in,
+    Encoding, Member, Order, PayloadError, Shape, Size, Tag, Value, Width, check_shape,
+    has_wire_type, own_width, size_of, width_in,
 };
 use std::alloc::Global;
 use std::collections::BTreeMap;
@@ -83,18 +83,22 @@ fn truth(window: Window<'_>) -> Result<(Value, Window<'_>), PayloadError>
 }
 
 #[tactic(auto, unfolding(crate::specs::Reading::data_by))]
-fn unsigned(size: Size, window: Window<'_>) -> Result<(Value, Window<'_>), PayloadError>
-    ensures { Gives (λ x. (data_of x.0, seen x.1)) result (data_at (unsigned size) (seen window.entry)) }
+fn unsigned(
+    order: Order,
+    size: Size,
+    window: Window<'_>,
+) -> Result<(Value, Window<'_>), PayloadError>
+    ensures { Gives (λ x. (data_of x.0, seen x.1)) result (data_at (unsigned order size) (seen window.entry)) }
 {
-    let (n, rest) = number(size, window)?;
+    let (n, rest) = ordered(order, size, window)?;
     Ok((Value::Uint(n), rest))
 }
 
 #[tactic(auto, unfolding(crate::specs::Reading::data_by))]
-fn signed(size: Size, window: Window<'_>) -> Result<(Value, Window<'_>), PayloadError>
-    ensures { Gives (λ x. (data_of x.0, seen x.1)) result (data_at (signed size) (seen window.entry)) }
+fn signed(order: Order, size: Size, window: Window<'_>) -> Result<(Value, Window<'_>), PayloadError>
+    ensures { Gives (λ x. (data_of x.0, seen x.1)) result (data_at (signed order size) (seen window.entry)) }
 {
-    let (n, rest) = number(size, window)?;
+    let (n, rest) = ordered(order, size, window)?;
     Ok((Value::Int(signed_of(size, n)), rest))
 }
 
@@ -110,6 +114,21 @@ fn string(
 {
     let (body, rest) = body(width, window)?;
     let text = text(alloc, encoding, window.place, body.bytes)?;
+    Ok((Value::Text(text), rest))
+}
+
+/// The text of exactly so many bytes.
+#[tactic(auto, unfolding(crate::specs::Reading::data_by))]
+fn fixed_text(
+    alloc: Global,
+    encoding: Encoding,
+    len: u32,
+    window: Window<'_>,
+) -> Result<(Value, Window<'_>), PayloadError>
+    ensures { Gives (λ x. (data_of x.0, seen x.1)) result (data_at (padded encoding len) (seen window.entry)) }
+{
+    let (bytes, rest) = front(window, len as usize)?;
+    let text = padded(alloc, encoding, window.place, bytes)?;
     Ok((Value::Text(text), rest))
 }
 
@@ -150,21 +169,34 @@ fn value_by<'a>(
 {
     match shape {
         Shape::Bool => truth(window),
-        Shape::U8 => unsigned(Size::S8, window),
-        Shape::U16 => unsigned(Size::S16, window),
-        Shape::U32 => unsigned(Size::S32, window),
-        Shape::U64 => unsigned(Size::S64, window),
-        Shape::I8 => signed(Size::S8, window),
-        Shape::I16 => signed(Size::S16, window),
-        Shape::I32 => signed(Size::S32, window),
-        Shape::I64 => signed(Size::S64, window),
+        Shape::U8 => unsigned(Order::Big, Size::S8, window),
+        Shape::U16 => unsigned(Order::Big, Size::S16, window),
+        Shape::U32 => unsigned(Order::Big, Size::S32, window),
+        Shape::U64 => unsigned(Order::Big, Size::S64, window),
+        Shape::I8 => signed(Order::Big, Size::S8, window),
+        Shape::I16 => signed(Order::Big, Size::S16, window),
+        Shape::I32 => signed(Order::Big, Size::S32, window),
+        Shape::I64 => signed(Order::Big, Size::S64, window),
+        Shape::U16Le => unsigned(Order::Little, Size::S16, window),
+        Shape::U32Le => unsigned(Order::Little, Size::S32, window),
+        Shape::U64Le => unsigned(Order::Little, Size::S64, window),
+        Shape::I16Le => signed(Order::Little, Size::S16, window),
+        Shape::I32Le => signed(Order::Little, Size::S32, window),
+        Shape::I64Le => signed(Order::Little, Size::S64, window),
         Shape::Text(encoding, _) => string(alloc, *encoding, width, window),
+        Shape::FixedText(encoding, len) => fixed_text(alloc, *encoding, *len, window),
         Shape::Array(_, max, element) => array(alloc, width, *max, element, window),
         Shape::Fixed(count, element) => repeated(alloc, *count, element, window),
+        Shape::FramedFixed(_, count, element) => {
+            framed_repeated(alloc, width, *count, element, window)
+        }
         Shape::Struct(None, shapes) => structure(alloc, shapes, window),
         Shape::Struct(Some(_), shapes) => framed_structure(alloc, width, shapes, window),
-        Shape::Union(variants) => union(alloc, width, variants, window),
+        Shape::Union(variants) => union(alloc, width, Width::W32, variants, window),
+        Shape::SizedUnion(_, field, variants) => union(alloc, width, *field, variants, window),
         Shape::Tagged(_, members) => tagged(alloc, width, members, window),
+        Shape::Named(_, shape) => value_by(alloc, width, shape, window),
+        Shape::Enum(shape, _) => value_by(alloc, width, shape, window),
     }
 }
 
@@ -194,9 +226,27 @@ fn repeated<'a>(
     element: &Shape,
     window: Window<'a>,
 ) -> Result<(Value, Window<'a>), PayloadError>
-    ensures { Gives (λ x. (data_of x.0, seen x.1)) result (data_at (fixed count (form element.now)) (seen window.entry)) }
+    ensures { Gives (λ x. (data_of x.0, seen x.1)) result (data_at (fixed None count (form element.now)) (seen window.entry)) }
 {
     let (items, rest) = fixed(alloc, count, element, window)?;
+    Ok((Value::List(items), rest))
+}
+
+/// So many elements at the front of the body after a length field of that width. What comes after
+/// them in it is skipped.
+#[cycle(read)]
+#[tactic(auto, unfolding(crate::specs::Reading::data_by))]
+fn framed_repeated<'a>(
+    alloc: Global,
+    width: Width,
+    count: u32,
+    element: &Shape,
+    window: Window<'a>,
+) -> Result<(Value, Window<'a>), PayloadError>
+    ensures { Gives (λ x. (data_of x.0, seen x.1)) result (data_by width (fixed (Some width) count (form element.now)) (seen window.entry)) }
+{
+    let (body, rest) = body(width, window)?;
+    let (items, _) = fixed(alloc, count, element, body)?;
     Ok((Value::List(items), rest))
 }
 
@@ -300,15 +350,16 @@ fn members<'a>(
 fn union<'a>(
     alloc: Global,
     width: Width,
+    field: Width,
     variants: &[(u32, Shape)],
     window: Window<'a>,
 ) -> Result<(Value, Window<'a>), PayloadError>
-    ensures { Gives (λ x. (data_of x.0, seen x.1)) result (union_at width
+    ensures { Gives (λ x. (data_of x.0, seen x.1)) result (union_at width field
         (λ kind len place v. variant_at (all_variants variants.now) kind len place (seen window.entry) v)
         (seen window.entry)) }
 {
     let (len, after) = number(size_of(width), window)?;
-    let (kind, rest) = number(Size::S32, after)?;
+    let (kind, rest) = number(size_of(field), after)?;
     if kind != 0 {
         return variant(alloc, variants, kind, after.place, len, window, rest);
     }

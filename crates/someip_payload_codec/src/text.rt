@@ -2,7 +2,7 @@
 
 ghost use Rattle.std.specs.Prelude.{◌≡◌, string_bytes, IfOk};
 ghost use Rattle.someip_payload_values.specs.Steps.{Gives};
-ghost use Rattle.someip_payload_codec.specs.Reading.{without_mark, is_little, unit_of, units_of, utf8_at, utf16_in, text_at};
+ghost use Rattle.someip_payload_codec.specs.Reading.{without_mark, is_little, unit_of, units_of, through_zero, utf8_at, utf16_in, text_at, padded_at};
 
 use someip_payload_values::{Encoding, PayloadError};
 use std::alloc::{AllocError, Global};
@@ -24,6 +24,49 @@ pub(crate) fn text(
             utf16(alloc, place, &units)
         }
     }
+}
+
+/// The text of a window of so many bytes, which ends at its first zero character.
+#[tactic(auto, unfolding(crate::specs::Reading::padded_at))]
+pub(crate) fn padded(
+    alloc: Global,
+    encoding: Encoding,
+    place: usize,
+    bytes: &[u8],
+) -> Result<String, PayloadError>
+    ensures { Gives (λ s. string_bytes s) result (padded_at encoding place bytes.now) }
+{
+    match encoding {
+        Encoding::Utf8 => utf8(alloc, place, bytes_through_zero(bytes)),
+        Encoding::Utf16 => {
+            let units = units(alloc, !is_little_endian(bytes), bytes)?;
+            utf16(alloc, place, units_through_zero(&units))
+        }
+    }
+}
+
+/// The bytes up to the first zero, with it.
+fn bytes_through_zero(bytes: &[u8]) -> &[u8]
+    ensures { result.now ≡ through_zero bytes.now }
+{
+    for i in 0..bytes.len() {
+        if bytes[i] == 0 {
+            return &bytes[..i + 1];
+        }
+    }
+    bytes
+}
+
+/// The units up to the first zero, with it.
+fn units_through_zero(units: &[u16]) -> &[u16]
+    ensures { result.now ≡ through_zero units.now }
+{
+    for i in 0..units.len() {
+        if units[i] == 0 {
+            return &units[..i + 1];
+        }
+    }
+    units
 }
 
 #[tactic(auto, using(crate::proofs::texts::Strings::is_utf8_true, crate::proofs::texts::Strings::is_utf8_false), unfolding(crate::specs::Reading::utf8_at))]

@@ -1,20 +1,21 @@
 -- Which errors the check of a shape and writing may have.
-use Rattle.std.proofs.Common.{◌≡◌, ◌⊎◌, inl, inr, ℕ, ◌^◌, Bool, true, false, cond, ltb, eqb, List, [], ◌++◌, length, Result, Ok, Err, Some, None, refl, subst}
+use Rattle.std.proofs.Common.{◌≡◌, ◌⊎◌, inl, inr, ℕ, ◌-◌, ◌^◌, ◌&&◌, not, replicate, Bool, true, false, cond, ltb, eqb, List, [], ◌++◌, length, Result, Ok, Err, Some, None, refl, subst}
 use Rattle.std.specs.Prelude.{ℤ, IfErr}
 use Rattle.std.specs.Int.{cast_unsigned}
 use Rattle.std.specs.Str.{is_utf8}
 use Rattle.someip_payload_values.specs.declared.error.PayloadError.{PayloadError}
 use Rattle.someip_payload_values.specs.declared.error.PayloadError.TheVariants as errors
 use Rattle.someip_payload_values.specs.declared.error.PayloadError.TheVariants.{Truncated, BadText, NoTerminator, UnknownVariant, LengthMismatch, TooMany, TooDeep, NotOfShape, TooLong, BadShape, DuplicateMember, WrongWireType, MissingMember}
+use Rattle.someip_payload_values.specs.declared.number.Order.{Order}
 use Rattle.someip_payload_values.specs.declared.number.Size.{Size}
 use Rattle.someip_payload_values.specs.declared.shape.Width.{Width}
 use Rattle.someip_payload_values.specs.declared.shape.Width.TheVariants.{W32}
-use Rattle.someip_payload_values.specs.Data.{Form, bool, unsigned, signed, string, array, fixed, «struct», union, tagged, Forms, form_then, Variants, no_variants, variant, Members, member_then, Data, truth, uint, int, phrase, list, tuple, nothing, chosen, slotted, Items, no_items, item, Slots, present, absent, count}
+use Rattle.someip_payload_values.specs.Data.{Form, bool, unsigned, signed, string, padded, array, fixed, «struct», union, tagged, named, enumerated, Forms, form_then, Variants, no_variants, variant, Members, member_then, Data, truth, uint, int, phrase, list, tuple, nothing, chosen, slotted, Items, no_items, item, Slots, present, absent, count}
 use Rattle.someip_payload_values.specs.Steps.{◌>>=◌, Fails}
 use Rattle.someip_payload_values.specs.Check.{depth, is_form, checked}
-use Rattle.someip_payload_values.specs.Numbers.{width_of, limit_of, size_of, number, framed, typed}
+use Rattle.someip_payload_values.specs.Numbers.{width_of, limit_of, size_of, is_signed, number_in, framed, typed}
 use Rattle.someip_payload_values.specs.Tags.{item_bytes, wire_type_of}
-use Rattle.someip_payload_values.specs.Writing.{is_signed, count_forms, number_text, signed_text, body_text, text_body, each_text, array_text, fixed_text, struct_text, typed_text, chosen_text, item_text, absent_text, count_members, count_slots, text_of, members_text, variant_text, slots_text, encoded, Appends, IsRefusal}
+use Rattle.someip_payload_values.specs.Writing.{count_forms, number_text, signed_text, body_text, text_body, each_text, array_text, fixed_text, framed_text, has_zero, padded_text, typed_text, chosen_text, item_text, absent_text, count_members, count_slots, text_of, members_text, variant_text, slots_text, encoded, Appends, IsRefusal}
 use Rattle.someip_payload_values.proofs.StepLemmas.{bind_err, passed_err, kept_err}
 
 -- ---- shapes
@@ -46,15 +47,15 @@ by_fails P (errors.MissingMember k) r none then h = then h
 
 -- ---- writing
 
-number_kind : (size : Size) (n : ℕ) (e : PayloadError) → number_text size n ≡ Err e → IsRefusal e
+number_kind : (order : Order) (size : Size) (n : ℕ) (e : PayloadError) → number_text order size n ≡ Err e → IsRefusal e
 unfolding number_text
-number_kind size n e h =
-    elim (passed_err (ltb n (limit_of size)) (Ok (number size n)) (NotOfShape 0) e h) [ inl (big, same) ↦ subst IsRefusal same refl | inr (good, never) ↦ absurd cc ]
+number_kind order size n e h =
+    elim (passed_err (ltb n (limit_of size)) (Ok (number_in order size n)) (NotOfShape 0) e h) [ inl (big, same) ↦ subst IsRefusal same refl | inr (good, never) ↦ absurd cc ]
 
-signed_kind : (size : Size) (z : ℤ) (e : PayloadError) → signed_text size z ≡ Err e → IsRefusal e
+signed_kind : (order : Order) (size : Size) (z : ℤ) (e : PayloadError) → signed_text order size z ≡ Err e → IsRefusal e
 unfolding signed_text
-signed_kind size z e h =
-    elim (passed_err (is_signed size z) (Ok (number size (cast_unsigned (width_of size) z))) (NotOfShape 0) e h) [ inl (big, same) ↦ subst IsRefusal same refl | inr (good, never) ↦ absurd cc ]
+signed_kind order size z e h =
+    elim (passed_err (is_signed size z) (Ok (number_in order size (cast_unsigned (width_of size) z))) (NotOfShape 0) e h) [ inl (big, same) ↦ subst IsRefusal same refl | inr (good, never) ↦ absurd cc ]
 
 body_kind : (width : Width) (body : List ℕ) (e : PayloadError) → body_text width body ≡ Err e → IsRefusal e
 unfolding body_text
@@ -65,12 +66,12 @@ body_kind width body e h =
 then_body : (width : Width) (r : Result (List ℕ) PayloadError) (e : PayloadError) → (r ≡ Err e → IsRefusal e) → (r >>= body_text width) ≡ Err e → IsRefusal e
 then_body width r e first h = elim (bind_err r (body_text width) e h) [ inl bad ↦ first bad | inr (body, was, then) ↦ body_kind width body e then ]
 
-chosen_kind : (kind : ℕ) (r : Result (List ℕ) PayloadError) (e : PayloadError) → (r ≡ Err e → IsRefusal e) → chosen_text kind r ≡ Err e → IsRefusal e
+chosen_kind : (width type : Width) (kind : ℕ) (r : Result (List ℕ) PayloadError) (e : PayloadError) → (r ≡ Err e → IsRefusal e) → chosen_text width type kind r ≡ Err e → IsRefusal e
 unfolding chosen_text typed_text
-chosen_kind kind r e first h =
-    elim (bind_err r (typed_text kind) e h) [
+chosen_kind width type kind r e first h =
+    elim (bind_err r (typed_text width type kind) e h) [
       | inl bad ↦ first bad
-      | inr (body, was, then) ↦ elim (passed_err (ltb (length body) (2 ^ 32)) (Ok (typed W32 kind body)) (TooLong 0) e then) [ inl (big, same) ↦ subst IsRefusal same refl | inr (good, never) ↦ absurd cc ]
+      | inr (body, was, then) ↦ elim (passed_err (ltb (length body) (limit_of (size_of width))) (Ok (typed width type kind body)) (TooLong 0) e then) [ inl (big, same) ↦ subst IsRefusal same refl | inr (good, never) ↦ absurd cc ]
     ]
 
 each_kind : (one : Data → Result (List ℕ) PayloadError) (e : PayloadError) → ((d : Data) → one d ≡ Err e → IsRefusal e) → (ds : Items) → each_text one ds ≡ Err e → IsRefusal e
@@ -90,28 +91,36 @@ refused : (d e : PayloadError) → IsRefusal d → (let r : Result (List ℕ) Pa
 refused d e is h = let same : d ≡ e = cc in subst IsRefusal same is
 
 mutual
-  unfolding text_of members_text variant_text slots_text array_text fixed_text struct_text item_text absent_text
+  unfolding text_of members_text variant_text slots_text array_text fixed_text framed_text padded_text item_text absent_text
 
   text_kind : (f : Form) (d : Data) (e : PayloadError) → text_of f d ≡ Err e → IsRefusal e
+  text_kind (named n f) d e h = text_kind f d e h
+  text_kind (enumerated f labels) d e h = text_kind f d e h
   text_kind bool (truth b) e h = absurd cc
-  text_kind (unsigned size) (uint n) e h = number_kind size n e h
-  text_kind (signed size) (int z) e h = signed_kind size z e h
+  text_kind (unsigned order size) (uint n) e h = number_kind order size n e h
+  text_kind (signed order size) (int z) e h = signed_kind order size z e h
+  text_kind (padded encoding n) (phrase s) e h =
+      choice_kind (is_utf8 s && not (has_zero s)) (padded_text n (text_body encoding s)) (Err (NotOfShape 0)) e
+      (λ k. choice_kind (ltb n (length (text_body encoding s))) (Err (TooLong 0)) (Ok (text_body encoding s ++ replicate (n - length (text_body encoding s)) 0)) e (refused (TooLong 0) e refl) (λ never. absurd cc) k) (refused (NotOfShape 0) e refl) h
   text_kind (string encoding width) (phrase s) e h =
       choice_kind (is_utf8 s) (body_text width (text_body encoding s)) (Err (NotOfShape 0)) e (body_kind width (text_body encoding s) e) (refused (NotOfShape 0) e refl) h
   text_kind (array width max element) (list ds) e h =
       choice_kind (ltb max (count ds)) (Err (TooMany 0)) (each_text (text_of element) ds >>= body_text width) e (refused (TooMany 0) e refl)
       (λ k. then_body width (each_text (text_of element) ds) e (λ bad. each_kind (text_of element) e (λ d x. text_kind element d e x) ds bad) k) h
-  text_kind (fixed n element) (list ds) e h =
+  text_kind (fixed None n element) (list ds) e h =
       choice_kind (eqb (count ds) n) (each_text (text_of element) ds) (Err (NotOfShape 0)) e
       (λ bad. each_kind (text_of element) e (λ d x. text_kind element d e x) ds bad) (refused (NotOfShape 0) e refl) h
+  text_kind (fixed (Some width) n element) (list ds) e h =
+      choice_kind (eqb (count ds) n) (each_text (text_of element) ds >>= body_text width) (Err (NotOfShape 0)) e
+      (λ k. then_body width (each_text (text_of element) ds) e (λ bad. each_kind (text_of element) e (λ d x. text_kind element d e x) ds bad) k) (refused (NotOfShape 0) e refl) h
   text_kind («struct» None fs) (tuple ds) e h =
       choice_kind (eqb (count ds) (count_forms fs)) (members_text fs ds) (Err (NotOfShape 0)) e (λ bad. members_refused fs ds e bad) (refused (NotOfShape 0) e refl) h
   text_kind («struct» (Some width) fs) (tuple ds) e h =
       choice_kind (eqb (count ds) (count_forms fs)) (members_text fs ds >>= body_text width) (Err (NotOfShape 0)) e
       (λ k. then_body width (members_text fs ds) e (λ bad. members_refused fs ds e bad) k) (refused (NotOfShape 0) e refl) h
-  text_kind (union vs) nothing e h = absurd cc
-  text_kind (union vs) (chosen kind d) e h =
-      choice_kind (ltb kind (2 ^ 32)) (variant_text vs kind d) (Err (UnknownVariant 0)) e (λ k. variant_refused vs kind d e k) (refused (UnknownVariant 0) e refl) h
+  text_kind (union width type vs) nothing e h = absurd cc
+  text_kind (union width type vs) (chosen kind d) e h =
+      choice_kind (ltb kind (limit_of (size_of type))) (variant_text width type vs kind d) (Err (UnknownVariant 0)) e (λ k. variant_refused width type vs kind d e k) (refused (UnknownVariant 0) e refl) h
   text_kind (tagged width ms) (slotted ss) e h =
       choice_kind (eqb (count_slots ss) (count_members ms)) (slots_text ms ss >>= body_text width) (Err (NotOfShape 0)) e
       (λ k. then_body width (slots_text ms ss) e (λ bad. slots_refused ms ss e bad) k) (refused (NotOfShape 0) e refl) h
@@ -125,11 +134,11 @@ mutual
       ]
   members_refused _ ds e h = absurd cc
 
-  variant_refused : (vs : Variants) (kind : ℕ) (d : Data) (e : PayloadError) → variant_text vs kind d ≡ Err e → IsRefusal e
-  variant_refused no_variants kind d e h = refused (UnknownVariant 0) e refl h
-  variant_refused (variant n f vs) kind d e h =
-      choice_kind (eqb n kind) (chosen_text kind (text_of f d)) (variant_text vs kind d) e
-      (λ k. chosen_kind kind (text_of f d) e (λ bad. text_kind f d e bad) k) (λ k. variant_refused vs kind d e k) h
+  variant_refused : (width type : Width) (vs : Variants) (kind : ℕ) (d : Data) (e : PayloadError) → variant_text width type vs kind d ≡ Err e → IsRefusal e
+  variant_refused width type no_variants kind d e h = refused (UnknownVariant 0) e refl h
+  variant_refused width type (variant n f vs) kind d e h =
+      choice_kind (eqb n kind) (chosen_text width type kind (text_of f d)) (variant_text width type vs kind d) e
+      (λ k. chosen_kind width type kind (text_of f d) e (λ bad. text_kind f d e bad) k) (λ k. variant_refused width type vs kind d e k) h
 
   slots_refused : (ms : Members) (ss : Slots) (e : PayloadError) → slots_text ms ss ≡ Err e → IsRefusal e
   slots_refused (member_then id optional f ms) (present d ss) e h =

@@ -4,5 +4,6 @@ pub mod Strings
 mod Writes
 pub mod ErrorKinds
 mod Characters
-mod ValueTexts
 mod OtherNumbers
+mod OtherNames
+mod ValueTexts

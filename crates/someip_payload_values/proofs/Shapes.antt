@@ -1,16 +1,19 @@
 -- Slices of shapes and of variants, as what they stand for.
-use Rattle.std.proofs.Common.{◌≡◌, ℕ, ◌+◌, ◌<◌, ◌==◌, not, true, Vec, Box, Global, Option, Some, None, String, string_bytes, rules, List, [], ◌∷◌, length, drop, get_or, refl, arith}
+use Rattle.std.proofs.Common.{◌≡◌, ℕ, ◌+◌, ◌<◌, ◌==◌, not, true, false, Vec, Box, Global, Option, Some, None, String, string_bytes, rules, List, [], ◌∷◌, length, drop, get_or, refl, arith}
 use Rattle.std.proofs.lemmas.Bool.Decides.{nat_tests}
 use Rattle.std.proofs.lemmas.List.{drop_more}
-use Rattle.std.specs.Prelude.{ℤ}
+use Rattle.std.specs.Prelude.{ℤ, nat_le}
 use Rattle.someip_payload_values.specs.declared.shape.Encoding.{Encoding}
 use Rattle.someip_payload_values.specs.declared.shape.Width.{Width}
-use Rattle.someip_payload_values.specs.declared.shape.Shape.{Shape, Bool, U8, U16, U32, U64, I8, I16, I32, I64, Text, Array, Fixed, Struct, Union, Tagged, the_lemmas}
+use Rattle.someip_payload_values.specs.declared.shape.Width.TheVariants.{W32}
+use Rattle.someip_payload_values.specs.declared.number.Order.TheVariants.{Little}
+use Rattle.someip_payload_values.specs.declared.number.Size.TheVariants.{S16, S32, S64}
+use Rattle.someip_payload_values.specs.declared.shape.Shape.{Shape, Bool, U8, U16, U32, U64, I8, I16, I32, I64, U16Le, U32Le, U64Le, I16Le, I32Le, I64Le, Text, FixedText, Array, Fixed, FramedFixed, Struct, Union, SizedUnion, Tagged, Named, Enum, the_lemmas}
 use Rattle.someip_payload_values.specs.declared.shape.Member.{Member, out-Member}
 use Rattle.someip_payload_values.specs.declared.value.Value.{Value, Uint, Int, Text as TextValue, List as ListValue, Struct as StructValue, Union as UnionValue, Tagged as TaggedValue, the_lemmas as value_lemmas}
-use Rattle.someip_payload_values.specs.Data.{bool, u8, u16, u32, u64, i8, i16, i32, i64, form_then, variant, member_then, string, array, fixed, «struct», union, tagged, uint, int, phrase, list, tuple, chosen, slotted}
-use Rattle.someip_payload_values.specs.Check.{has_members, has_variants, has_tagged_members}
-use Rattle.someip_payload_values.specs.View.{form, forms, all_variants, all_members, data_of, data_of_all, data_of_choice, slots_of}
+use Rattle.someip_payload_values.specs.Data.{Form, bool, u8, u16, u32, u64, i8, i16, i32, i64, form_then, variant, member_then, unsigned, signed, string, padded, array, fixed, «struct», union, tagged, named, enumerated, uint, int, phrase, list, tuple, chosen, slotted}
+use Rattle.someip_payload_values.specs.Check.{depth, has_members, has_variants, has_tagged_members}
+use Rattle.someip_payload_values.specs.View.{form, forms, all_variants, all_members, labels_of, data_of, data_of_all, data_of_choice, slots_of}
 
 pub has_members_of : (ss : List Shape) → has_members (forms ss) ≡ not (length ss == 0)
 has_members_of [] = refl
@@ -36,7 +39,7 @@ pub all_members-drop : (ms : List Member) (i : ℕ) (m : Member) → i < length 
     → all_members (drop i ms) ≡ member_then (out-Member (get_or ms i m)).id (out-Member (get_or ms i m)).is_optional (form (out-Member (get_or ms i m)).shape) (all_members (drop (i + 1) ms))
 all_members-drop ms i m h = rw (drop_more ms i m h) (search (rules, the_lemmas))
 
-pub form-Union : (vs : Vec (ℕ × Shape) Global) → form (Union vs) ≡ union (all_variants vs.items)
+pub form-Union : (vs : Vec (ℕ × Shape) Global) → form (Union vs) ≡ union W32 W32 (all_variants vs.items)
 form-Union vs = search (rules, the_lemmas)
 
 pub data_of-Some : (kind : ℕ) (v : Box Value Global) → data_of (UnionValue (Some (kind, v))) ≡ chosen kind (data_of v.value)
@@ -89,10 +92,43 @@ form-I32 = search (rules, the_lemmas)
 pub form-I64 : form I64 ≡ i64
 form-I64 = search (rules, the_lemmas)
 
+pub form-U16Le : form U16Le ≡ unsigned Little S16
+form-U16Le = search (rules, the_lemmas)
+
+pub form-U32Le : form U32Le ≡ unsigned Little S32
+form-U32Le = search (rules, the_lemmas)
+
+pub form-U64Le : form U64Le ≡ unsigned Little S64
+form-U64Le = search (rules, the_lemmas)
+
+pub form-I16Le : form I16Le ≡ signed Little S16
+form-I16Le = search (rules, the_lemmas)
+
+pub form-I32Le : form I32Le ≡ signed Little S32
+form-I32Le = search (rules, the_lemmas)
+
+pub form-I64Le : form I64Le ≡ signed Little S64
+form-I64Le = search (rules, the_lemmas)
+
+pub form-FixedText : (encoding : Encoding) (n : ℕ) → form (FixedText encoding n) ≡ padded encoding n
+form-FixedText encoding n = search (rules, the_lemmas)
+
+pub form-FramedFixed : (width : Width) (n : ℕ) (element : Box Shape Global) → form (FramedFixed width n element) ≡ fixed (Some width) n (form element.value)
+form-FramedFixed width n element = search (rules, the_lemmas)
+
+pub form-SizedUnion : (width type : Width) (vs : Vec (ℕ × Shape) Global) → form (SizedUnion width type vs) ≡ union width type (all_variants vs.items)
+form-SizedUnion width type vs = search (rules, the_lemmas)
+
+pub form-Named : (name : String Global) (f : Box Shape Global) → form (Named name f) ≡ named (string_bytes name) (form f.value)
+form-Named name f = search (rules, the_lemmas)
+
+pub form-Enum : (f : Box Shape Global) (labels : Vec (ℤ × String Global) Global) → form (Enum f labels) ≡ enumerated (form f.value) (labels_of labels.items)
+form-Enum f labels = search (rules, the_lemmas)
+
 pub form-Array : (width : Width) (most : ℕ) (element : Box Shape Global) → form (Array width most element) ≡ array width most (form element.value)
 form-Array width most element = search (rules, the_lemmas)
 
-pub form-Fixed : (n : ℕ) (element : Box Shape Global) → form (Fixed n element) ≡ fixed n (form element.value)
+pub form-Fixed : (n : ℕ) (element : Box Shape Global) → form (Fixed n element) ≡ fixed None n (form element.value)
 form-Fixed n element = search (rules, the_lemmas)
 
 pub form-Struct : (width : Option Width) (ss : Vec Shape Global) → form (Struct width ss) ≡ «struct» width (forms ss.items)
@@ -109,3 +145,18 @@ data_of-List vs = search (rules, value_lemmas)
 
 pub data_of-Struct : (vs : Vec Value Global) → data_of (StructValue vs) ≡ tuple (data_of_all vs.items)
 data_of-Struct vs = search (rules, value_lemmas)
+
+-- each form is one level deep at least
+pub some_depth : (f : Form) → 0 < depth f
+some_depth (named n f) = some_depth f
+some_depth (enumerated f labels) = some_depth f
+some_depth (array width most element) = omega arith
+some_depth (fixed width n element) = omega arith
+some_depth («struct» width fs) = omega arith
+some_depth (union width type vs) = omega arith
+some_depth (tagged width ms) = omega arith
+some_depth bool = omega arith
+some_depth (unsigned order size) = omega arith
+some_depth (signed order size) = omega arith
+some_depth (string encoding width) = omega arith
+some_depth (padded encoding n) = omega arith

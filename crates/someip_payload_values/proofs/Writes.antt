@@ -88,26 +88,26 @@ members_done front ss vs i total le so_far =
 
 -- ---- the variant of a number
 
-module _ (kind : ℕ) (d : Data) (vs : List (ℕ × Shape)) (i : ℕ) where
+module _ (width type : Width) (kind : ℕ) (d : Data) (vs : List (ℕ × Shape)) (i : ℕ) where
   pub variant_hit : (v : ℕ × Shape) (total : Result (List ℕ) PayloadError) → i < length vs → v ≡ get_or vs i v → v.0 ≡ kind
-      → variant_text (all_variants (drop i vs)) kind d ≡ total → total ≡ chosen_text kind (text_of (form v.1) d)
+      → variant_text width type (all_variants (drop i vs)) kind d ≡ total → total ≡ chosen_text width type kind (text_of (form v.1) d)
   unfolding variant_text
   variant_hit v total lt at same so_far =
-      let step : variant_text (all_variants (drop i vs)) kind d ≡ chosen_text kind (text_of (form v.1) d) = rw (all_variants-drop vs i v lt, ← at, eq-eqb v.0 kind same) refl in
+      let step : variant_text width type (all_variants (drop i vs)) kind d ≡ chosen_text width type kind (text_of (form v.1) d) = rw (all_variants-drop vs i v lt, ← at, eq-eqb v.0 kind same) refl in
       sym so_far ∙ step
 
   pub variant_miss : (v : ℕ × Shape) (total : Result (List ℕ) PayloadError) → i < length vs → v ≡ get_or vs i v → (v.0 ≡ kind → ⊥)
-      → variant_text (all_variants (drop i vs)) kind d ≡ total → variant_text (all_variants (drop (i + 1) vs)) kind d ≡ total
+      → variant_text width type (all_variants (drop i vs)) kind d ≡ total → variant_text width type (all_variants (drop (i + 1) vs)) kind d ≡ total
   unfolding variant_text
   variant_miss v total lt at other so_far =
-      let step : variant_text (all_variants (drop i vs)) kind d ≡ variant_text (all_variants (drop (i + 1) vs)) kind d = rw (all_variants-drop vs i v lt, ← at, ne_eqb v.0 kind other) refl in
+      let step : variant_text width type (all_variants (drop i vs)) kind d ≡ variant_text width type (all_variants (drop (i + 1) vs)) kind d = rw (all_variants-drop vs i v lt, ← at, ne_eqb v.0 kind other) refl in
       sym step ∙ so_far
 
   pub variant_none : (total : Result (List ℕ) PayloadError) → length vs ≤ i
-      → variant_text (all_variants (drop i vs)) kind d ≡ total → total ≡ Err (UnknownVariant 0)
+      → variant_text width type (all_variants (drop i vs)) kind d ≡ total → total ≡ Err (UnknownVariant 0)
   unfolding variant_text
   variant_none total le so_far =
-      let step : variant_text (all_variants (drop i vs)) kind d ≡ Err (UnknownVariant 0) = rw (drop_all i vs le) refl in
+      let step : variant_text width type (all_variants (drop i vs)) kind d ≡ Err (UnknownVariant 0) = rw (drop_all i vs le) refl in
       sym so_far ∙ step
 
 -- ---- the items of members

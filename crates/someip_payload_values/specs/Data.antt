@@ -1,5 +1,7 @@
 -- Forms, which are shapes without where they lie in memory, and data, which are values without.
 use Rattle.std.specs.Prelude.{ℕ, ◌+◌, ℤ, Bool, List, Option}
+use Rattle.someip_payload_values.specs.declared.number.Order.{Order}
+use Rattle.someip_payload_values.specs.declared.number.Order.TheVariants.{Big}
 use Rattle.someip_payload_values.specs.declared.number.Size.{Size}
 use Rattle.someip_payload_values.specs.declared.number.Size.TheVariants.{S8, S16, S32, S64}
 use Rattle.someip_payload_values.specs.declared.shape.Width.{Width}
@@ -8,14 +10,22 @@ use Rattle.someip_payload_values.specs.declared.shape.Encoding.{Encoding}
 mutual
   pub data Form : Type 0 where
     bool : Form
-    unsigned : Size → Form
-    signed : Size → Form
+    unsigned : Order → Size → Form
+    signed : Order → Size → Form
     string : Encoding → Width → Form
+    -- a text in exactly so many bytes
+    padded : Encoding → ℕ → Form
     array : Width → ℕ → Form → Form
-    fixed : ℕ → Form → Form
+    -- exactly so many elements, perhaps after a length field
+    fixed : Option Width → ℕ → Form → Form
     «struct» : Option Width → Forms → Form
-    union : Variants → Form
+    -- with the widths of its length field and of its type field
+    union : Width → Width → Variants → Form
     tagged : Width → Members → Form
+    -- a form with a name, which a member of a structure has
+    named : List ℕ → Form → Form
+    -- an integer with names for some of its values
+    enumerated : Form → List (ℤ × List ℕ) → Form
 
   -- the members of a structure
   pub data Forms : Type 0 where
@@ -32,30 +42,30 @@ mutual
     no_members : Members
     member_then : ℕ → Bool → Form → Members → Members
 
--- numbers by their names
+-- numbers by their names, each from its highest byte on
 abbrev pub u8 : Form
-u8 = unsigned S8
+u8 = unsigned Big S8
 
 abbrev pub u16 : Form
-u16 = unsigned S16
+u16 = unsigned Big S16
 
 abbrev pub u32 : Form
-u32 = unsigned S32
+u32 = unsigned Big S32
 
 abbrev pub u64 : Form
-u64 = unsigned S64
+u64 = unsigned Big S64
 
 abbrev pub i8 : Form
-i8 = signed S8
+i8 = signed Big S8
 
 abbrev pub i16 : Form
-i16 = signed S16
+i16 = signed Big S16
 
 abbrev pub i32 : Form
-i32 = signed S32
+i32 = signed Big S32
 
 abbrev pub i64 : Form
-i64 = signed S64
+i64 = signed Big S64
 
 mutual
   -- a text is its bytes in UTF-8

@@ -9,7 +9,7 @@ use Rattle.someip_payload_values.specs.declared.shape.Width.TheVariants.{W8, W16
 use Rattle.someip_payload_values.specs.declared.tag.WireType.{WireType}
 use Rattle.someip_payload_values.specs.declared.tag.WireType.TheVariants.{Basic, OwnLength, Length}
 use Rattle.someip_payload_values.specs.declared.tag.Tag.{Tag}
-use Rattle.someip_payload_values.specs.Data.{Form, bool, unsigned, signed, string, array, fixed, «struct», union, tagged}
+use Rattle.someip_payload_values.specs.Data.{Form, bool, unsigned, signed, string, padded, array, fixed, «struct», union, tagged, named, enumerated}
 use Rattle.someip_payload_values.specs.Numbers.{width_of, number, bit_of, Framed}
 
 -- the standard's table of wire types
@@ -63,11 +63,15 @@ own_width (string encoding width) = width
 own_width (array width most element) = width
 own_width («struct» (Some width) fs) = width
 own_width (tagged width ms) = width
-own_width (union vs) = W32
+own_width (union width type vs) = width
+own_width (fixed (Some width) n element) = width
+own_width (named n f) = own_width f
+own_width (enumerated f labels) = own_width f
 own_width bool = W32
-own_width (unsigned size) = W32
-own_width (signed size) = W32
-own_width (fixed n element) = W32
+own_width (padded encoding n) = W32
+own_width (unsigned order size) = W32
+own_width (signed order size) = W32
+own_width (fixed None n element) = W32
 own_width («struct» None fs) = W32
 
 abbrev pub same_size : Size → Size → Bool
@@ -103,14 +107,18 @@ is_length (Length width) = true
 -- an item with a value of the form may have the wire type
 abbrev pub has_wire_type : Form → WireType → Bool
 has_wire_type bool t = is_basic S8 t
-has_wire_type (unsigned size) t = is_basic size t
-has_wire_type (signed size) t = is_basic size t
+has_wire_type (unsigned order size) t = is_basic size t
+has_wire_type (signed order size) t = is_basic size t
 has_wire_type (string encoding width) t = is_length t
 has_wire_type (array width most element) t = is_length t
 has_wire_type («struct» (Some width) fs) t = is_length t
-has_wire_type (union vs) t = is_length t
+has_wire_type (union width type vs) t = is_length t
+has_wire_type (fixed (Some width) n element) t = is_length t
 has_wire_type (tagged width ms) t = is_length t
-has_wire_type (fixed n element) t = false
+has_wire_type (named n f) t = has_wire_type f t
+has_wire_type (enumerated f labels) t = has_wire_type f t
+has_wire_type (padded encoding n) t = false
+has_wire_type (fixed None n element) t = false
 has_wire_type («struct» None fs) t = false
 
 -- the width of the length field of a value in an item of the wire type
@@ -122,14 +130,18 @@ width_in (Basic size) f = own_width f
 -- the wire type with which an item is written; a form that can't be tagged has none, and what stands there is not used
 abbrev pub wire_type_of : Form → WireType
 wire_type_of bool = Basic S8
-wire_type_of (unsigned size) = Basic size
-wire_type_of (signed size) = Basic size
+wire_type_of (unsigned order size) = Basic size
+wire_type_of (signed order size) = Basic size
 wire_type_of (string encoding width) = Length width
 wire_type_of (array width most element) = Length width
 wire_type_of («struct» (Some width) fs) = Length width
 wire_type_of (tagged width ms) = Length width
-wire_type_of (union vs) = Length W32
-wire_type_of (fixed n element) = OwnLength
+wire_type_of (named n f) = wire_type_of f
+wire_type_of (enumerated f labels) = wire_type_of f
+wire_type_of (padded encoding n) = OwnLength
+wire_type_of (union width type vs) = Length width
+wire_type_of (fixed (Some width) n element) = Length width
+wire_type_of (fixed None n element) = OwnLength
 wire_type_of («struct» None fs) = OwnLength
 
 -- ---- what a tag's number says

@@ -1,7 +1,9 @@
 -- What shapes and values stand for.
-use Rattle.std.specs.Prelude.{ℕ, Bool, List, [], ◌∷◌, map, Option, Some, None, Box, string_bytes}
+use Rattle.std.specs.Prelude.{ℕ, ℤ, Bool, List, [], ◌∷◌, map, Option, Some, None, Box, String, string_bytes}
 use Rattle.std.specs.declared.alloc.Global.{Global}
-use Rattle.someip_payload_values.specs.Data.{Form, bool, unsigned, signed, string, array, fixed, «struct», union, tagged, Forms, no_forms, form_then, Variants, no_variants, variant, Members, no_members, member_then, Data, truth, uint, int, phrase, list, tuple, nothing, chosen, slotted, Items, no_items, item, Slots, no_slots, present, absent}
+use Rattle.someip_payload_values.specs.Data.{Form, bool, unsigned, signed, string, padded, array, fixed, «struct», union, tagged, named, enumerated, Forms, no_forms, form_then, Variants, no_variants, variant, Members, no_members, member_then, Data, truth, uint, int, phrase, list, tuple, nothing, chosen, slotted, Items, no_items, item, Slots, no_slots, present, absent}
+use Rattle.someip_payload_values.specs.declared.number.Order.TheVariants.{Big, Little}
+use Rattle.someip_payload_values.specs.declared.shape.Width.TheVariants.{W32}
 use Rattle.someip_payload_values.specs.declared.number.Size.TheVariants.{S8, S16, S32, S64}
 use Rattle.someip_payload_values.specs.declared.shape.Shape.{Shape, fold-Shape}
 use Rattle.someip_payload_values.specs.declared.shape.Shape.TheOpen.{Shape-F, Member-F}
@@ -36,23 +38,38 @@ as_slots [] = no_slots
 as_slots (Some d ∷ ds) = present d (as_slots ds)
 as_slots (None ∷ ds) = absent (as_slots ds)
 
+-- the values that have a name, each with it
+abbrev pub labels_of : List (ℤ × String Global) → List (ℤ × List ℕ)
+labels_of labels = map (λ l. (l.0, string_bytes l.1)) labels
+
 -- one level, with each shape inside already seen
 abbrev pub form_step : Shape-F Form OneMember → Form
 form_step Shape-F.Bool = bool
-form_step Shape-F.U8 = unsigned S8
-form_step Shape-F.U16 = unsigned S16
-form_step Shape-F.U32 = unsigned S32
-form_step Shape-F.U64 = unsigned S64
-form_step Shape-F.I8 = signed S8
-form_step Shape-F.I16 = signed S16
-form_step Shape-F.I32 = signed S32
-form_step Shape-F.I64 = signed S64
+form_step Shape-F.U8 = unsigned Big S8
+form_step Shape-F.U16 = unsigned Big S16
+form_step Shape-F.U32 = unsigned Big S32
+form_step Shape-F.U64 = unsigned Big S64
+form_step Shape-F.I8 = signed Big S8
+form_step Shape-F.I16 = signed Big S16
+form_step Shape-F.I32 = signed Big S32
+form_step Shape-F.I64 = signed Big S64
+form_step Shape-F.U16Le = unsigned Little S16
+form_step Shape-F.U32Le = unsigned Little S32
+form_step Shape-F.U64Le = unsigned Little S64
+form_step Shape-F.I16Le = signed Little S16
+form_step Shape-F.I32Le = signed Little S32
+form_step Shape-F.I64Le = signed Little S64
 form_step (Shape-F.Text encoding w) = string encoding w
+form_step (Shape-F.FixedText encoding n) = padded encoding n
 form_step (Shape-F.Array w max f) = array w max f.value
-form_step (Shape-F.Fixed n f) = fixed n f.value
+form_step (Shape-F.Fixed n f) = fixed None n f.value
+form_step (Shape-F.FramedFixed w n f) = fixed (Some w) n f.value
 form_step (Shape-F.Struct w fs) = «struct» w (forms_of fs.items)
-form_step (Shape-F.Union vs) = union (variants_of vs.items)
+form_step (Shape-F.Union vs) = union W32 W32 (variants_of vs.items)
+form_step (Shape-F.SizedUnion w t vs) = union w t (variants_of vs.items)
 form_step (Shape-F.Tagged w ms) = tagged w (members_of ms.items)
+form_step (Shape-F.Named name f) = named (string_bytes name) f.value
+form_step (Shape-F.Enum f labels) = enumerated f.value (labels_of labels.items)
 
 abbrev pub member_step : Member-F Form OneMember → OneMember
 member_step m = record { id = m.id; optional = m.is_optional; form = m.shape }

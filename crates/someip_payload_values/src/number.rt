@@ -1,9 +1,8 @@
-//! Numbers as bytes, from the highest on.
+//! Numbers as bytes.
 
 ghost use Rattle.std.specs.Prelude.{◌≡◌, ◌<◌, ◌++◌, ◌↔◌, true, IsTrue, OnOk};
 ghost use Rattle.std.specs.Int.{cast_unsigned};
-ghost use Rattle.someip_payload_values.specs.Numbers.{width_of, limit_of, size_of, number};
-ghost use Rattle.someip_payload_values.specs.Writing.{is_signed};
+ghost use Rattle.someip_payload_values.specs.Numbers.{is_signed, width_of, limit_of, size_of, number, number_in};
 
 use crate::shape::Width;
 use std::alloc::AllocError;
@@ -15,6 +14,15 @@ pub enum Size {
     S16,
     S32,
     S64,
+}
+
+/// Which byte of a number comes first.
+#[derive(Clone, Copy)]
+pub enum Order {
+    /// The highest one.
+    Big,
+    /// The lowest one.
+    Little,
 }
 
 /// How many bits a length field has.
@@ -65,7 +73,21 @@ pub(crate) fn bits_of(size: Size, z: i64) -> u64
     }
 }
 
-/// Adds a number that the size can have.
+/// Adds a number that the size can have, in an order of its bytes.
+pub(crate) fn put_in(order: Order, size: Size, n: u64, out: &mut Vec<u8>) -> Result<(), AllocError>
+    requires { n < limit_of size }
+    ensures { OnOk result (out.new.items ≡ out.old.items ++ number_in order size n) }
+{
+    match (order, size) {
+        (Order::Big, _) => put_bytes(size, n, out),
+        (Order::Little, Size::S8) => out.extend_from_slice(&[n as u8]),
+        (Order::Little, Size::S16) => out.extend_from_slice(&(n as u16).to_le_bytes()),
+        (Order::Little, Size::S32) => out.extend_from_slice(&(n as u32).to_le_bytes()),
+        (Order::Little, Size::S64) => out.extend_from_slice(&n.to_le_bytes()),
+    }
+}
+
+/// Adds a number that the size can have, from its highest byte on.
 pub(crate) fn put_bytes(size: Size, n: u64, out: &mut Vec<u8>) -> Result<(), AllocError>
     requires { n < limit_of size }
     ensures { OnOk result (out.new.items ≡ out.old.items ++ number size n) }

@@ -19,7 +19,8 @@ pub enum Encoding {
 }
 
 /// A shape of payload: which values it has and how each is written (SOME/IP Protocol, payload
-/// serialization). Numbers are big-endian, and signed ones in two's complement.
+/// serialization). Numbers are big-endian where a name does not end in `Le`, and signed ones in two's
+/// complement.
 #[derive(Debug, Drop)]
 #[cycle(shape)]
 pub enum Shape {
@@ -33,21 +34,43 @@ pub enum Shape {
     I16,
     I32,
     I64,
+    /// Little-endian, as the numbers that follow.
+    U16Le,
+    U32Le,
+    U64Le,
+    I16Le,
+    I32Le,
+    I64Le,
     /// A text after a length field in bytes, with a byte order mark and a terminator.
     Text(Encoding, Width),
+    /// A text in exactly so many bytes, which must be from 4 to 1,048,576, and even in UTF-16: with a byte
+    /// order mark, which may be absent in UTF-8, and a terminator. What comes after the first
+    /// terminator is not looked at; when written, it is zeros.
+    FixedText(Encoding, u32),
     /// At most so many elements, after a length field in bytes.
     Array(Width, u32, Box<Shape>),
     /// Exactly so many elements, without a length field.
     Fixed(u32, Box<Shape>),
+    /// Exactly so many elements, after a length field in bytes. What comes after them in it is
+    /// skipped.
+    FramedFixed(Width, u32, Box<Shape>),
     /// Members in order, perhaps after a length field in bytes.
     Struct(Option<Width>, Vec<Shape>),
     /// One of several variants, each with its type number, after a length field in bytes and a
     /// type field, each of 32 bits. Type number 0 stands for no value.
     Union(Vec<(u32, Shape)>),
+    /// A union whose length field and type field have these widths.
+    SizedUnion(Width, Width, Vec<(u32, Shape)>),
     /// Members that are told apart by their Data IDs, after a length field in bytes: they stand in
     /// any order, and what has another Data ID is skipped. The tag of an item may give its value a
     /// length field of another width than its shape has; when written, it has the shape's.
     Tagged(Width, Vec<Member>),
+    /// A member of a structure with its name: a letter or `_`, then letters, digits and `_` of ASCII,
+    /// at most 64 bytes in all. It changes nothing of bytes, values and faults, only of texts.
+    Named(String, Box<Shape>),
+    /// An integer with names for some of its values, by rising value. Numbers without a name are
+    /// values as well: names change nothing but texts.
+    Enum(Box<Shape>, Vec<(i128, String)>),
 }
 
 /// A member of a tagged structure (SOME/IP Protocol, "Structured Datatypes and Arguments with

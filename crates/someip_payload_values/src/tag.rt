@@ -96,7 +96,11 @@ pub fn own_width(shape: &Shape) -> Width
         Shape::Text(_, width)
         | Shape::Array(width, _, _)
         | Shape::Struct(Some(width), _)
-        | Shape::Tagged(width, _) => *width,
+        | Shape::Tagged(width, _)
+        | Shape::FramedFixed(width, _, _)
+        | Shape::SizedUnion(width, _, _) => *width,
+        Shape::Named(_, shape) => own_width(shape),
+        Shape::Enum(shape, _) => own_width(shape),
         _ => Width::W32,
     }
 }
@@ -107,10 +111,12 @@ pub fn has_wire_type(shape: &Shape, wire_type: WireType) -> bool
 {
     match shape {
         Shape::Bool | Shape::U8 | Shape::I8 => is_basic(Size::S8, wire_type),
-        Shape::U16 | Shape::I16 => is_basic(Size::S16, wire_type),
-        Shape::U32 | Shape::I32 => is_basic(Size::S32, wire_type),
-        Shape::U64 | Shape::I64 => is_basic(Size::S64, wire_type),
-        Shape::Fixed(_, _) | Shape::Struct(None, _) => false,
+        Shape::U16 | Shape::I16 | Shape::U16Le | Shape::I16Le => is_basic(Size::S16, wire_type),
+        Shape::U32 | Shape::I32 | Shape::U32Le | Shape::I32Le => is_basic(Size::S32, wire_type),
+        Shape::U64 | Shape::I64 | Shape::U64Le | Shape::I64Le => is_basic(Size::S64, wire_type),
+        Shape::Fixed(_, _) | Shape::Struct(None, _) | Shape::FixedText(_, _) => false,
+        Shape::Named(_, shape) => has_wire_type(shape, wire_type),
+        Shape::Enum(shape, _) => has_wire_type(shape, wire_type),
         _ => is_length(wire_type),
     }
 }
@@ -149,10 +155,12 @@ pub(crate) fn wire_type_of(shape: &Shape) -> WireType
 {
     match shape {
         Shape::Bool | Shape::U8 | Shape::I8 => WireType::Basic(Size::S8),
-        Shape::U16 | Shape::I16 => WireType::Basic(Size::S16),
-        Shape::U32 | Shape::I32 => WireType::Basic(Size::S32),
-        Shape::U64 | Shape::I64 => WireType::Basic(Size::S64),
-        Shape::Fixed(_, _) | Shape::Struct(None, _) => WireType::OwnLength,
+        Shape::U16 | Shape::I16 | Shape::U16Le | Shape::I16Le => WireType::Basic(Size::S16),
+        Shape::U32 | Shape::I32 | Shape::U32Le | Shape::I32Le => WireType::Basic(Size::S32),
+        Shape::U64 | Shape::I64 | Shape::U64Le | Shape::I64Le => WireType::Basic(Size::S64),
+        Shape::Fixed(_, _) | Shape::Struct(None, _) | Shape::FixedText(_, _) => WireType::OwnLength,
+        Shape::Named(_, shape) => wire_type_of(shape),
+        Shape::Enum(shape, _) => wire_type_of(shape),
         _ => WireType::Length(own_width(shape)),
     }
 }

@@ -1,13 +1,13 @@
 -- The text of a shape has no space, so a line `payload SHAPE HEX` is parted at its first one after the word.
-use Rattle.std.proofs.Common.{◌≡◌, ◌==◌, ◌||◌, ◌<◌, ◌≤◌, ◌^◌, ℕ, suc, ◌+◌, Bool, true, false, List, [], ◌∷◌, ◌++◌, length, take, drop, codes, Option, None, Some, Err, refl, sym, ap, subst, ◌∙◌, arith, length-append}
-use Rattle.std.specs.List.{list_any, position_or_len, before_first, after_first}
+use Rattle.std.proofs.Common.{◌≡◌, ◌==◌, ◌||◌, ◌&&◌, ltb, ◌<◌, ◌≤◌, ◌^◌, ℕ, suc, ◌+◌, Bool, true, false, List, [], ◌∷◌, ◌++◌, length, take, drop, codes, Option, None, Some, Err, refl, sym, ap, subst, ◌∙◌, arith, length-append}
+use Rattle.std.specs.List.{list_all, list_any, position_or_len, before_first, after_first}
 use Rattle.std.specs.Fmt.{decimal}
 use Rattle.std.specs.Char.{digit_value}
 use Rattle.std.specs.Str.Parse.{AllDigits}
-use Rattle.std.proofs.lemmas.Bool.{eqb-true}
+use Rattle.std.proofs.lemmas.Bool.{and_parts, eqb-true}
 use Rattle.std.proofs.lemmas.Fmt.{decimal_is_IsNumeral}
 use Rattle.std.proofs.lemmas.List.Folds.{list_any-append}
-use Rattle.someip_payload_values.specs.Check.{depth}
+use Rattle.someip_payload_values.specs.Check.{depth, is_first, is_later, is_name}
 use Rattle.someip_payload_values.specs.Data.{Form, Forms, Variants, Members}
 use Rattle.someip_payload_values.specs.View.{form}
 use Rattle.someip_payload_values.specs.declared.Shape.{Shape}
@@ -18,7 +18,7 @@ use Rattle.someipctl_show.specs.Payload.{argument_bytes}
 use Rattle.someipctl_show.specs.VectorLines.{AreArguments, fault_of_shape}
 use Rattle.someip_payload_values.specs.declared.shape.Width.{Width}
 use Rattle.someip_payload_values.specs.declared.shape.Width.TheVariants.{W8, W16, W32}
-use Rattle.someip_payload.specs.ShapeText.{IsReadAs, width_text, repeated_text, IsTextOf, bool_text, u8_text, u16_text, u32_text, u64_text, i8_text, i16_text, i32_text, i64_text, utf8_text, utf16_text, array_text, fixed_text, struct_text, union_text, tagged_text, mark_text, tagged_member_text, IsTextOfTaggedMembers, last_tagged, next_tagged, IsTextOfMembers, last_member, next_member, IsTextOfVariants, last_variant, next_variant}
+use Rattle.someip_payload.specs.ShapeText.{IsReadAs, width_text, repeated_text, IsInteger, u8_text, u16_text, u32_text, u64_text, i8_text, i16_text, i32_text, i64_text, u16le_text, u32le_text, u64le_text, i16le_text, i32le_text, i64le_text, widths_text, room_text, IsTextOf, bool_text, integer_text, utf8_text, utf16_text, utf8fix_text, utf16fix_text, array_text, fixed_text, struct_text, union_text, tagged_text, mark_text, tagged_member_text, name_text, IsNameIfAny, IsTextOfTagged, tagged_one, IsTextOfTaggedMembers, last_tagged, next_tagged, IsTextOfMember, member_text, IsTextOfMembers, last_member, next_member, IsTextOfVariants, last_variant, next_variant}
 
 abbrev pub is_blank : ℕ → Bool
 is_blank b = b == 32
@@ -69,36 +69,83 @@ member_unparted : (id : ℕ) (optional : Bool) (text : List ℕ) → id < 2 ^ 12
 member_unparted id optional text fits h =
     both (decimal id) (mark_text optional ++ (codes ":" ++ text)) (decimal_unparted id (omega (arith, fits))) (between (mark_text optional) (codes ":") text (mark_unparted optional) refl h)
 
+-- a name has no space
+later_unparted : (b : ℕ) (bs : List ℕ) (blank : Bool) → is_blank b ≡ blank → is_later b ≡ true → IsUnparted bs → IsUnparted (b ∷ bs)
+later_unparted b bs true is later rest =
+    let same : b ≡ 32 = eqb-true b 32 is in
+    let never : is_later 32 ≡ true = rw same at later in
+    absurd cc
+later_unparted b bs false is later rest = rw is rest
+
+all_unparted : (bs : List ℕ) → list_all is_later bs ≡ true → IsUnparted bs
+all_unparted [] later = refl
+all_unparted (b ∷ bs) later = let p = and_parts (is_later b) (list_all is_later bs) later in later_unparted b bs (is_blank b) refl p.0 (all_unparted bs p.1)
+
+first_is_later : (b : ℕ) → is_first b ≡ true → is_later b ≡ true
+first_is_later b first = rw first refl
+
+whole_unparted : (n : List ℕ) → is_name n ≡ true → IsUnparted n
+whole_unparted [] is = refl
+whole_unparted (b ∷ bs) is =
+    let p = and_parts (is_first b) (list_all is_later bs && ltb (length bs) 64) is in
+    let q = and_parts (list_all is_later bs) (ltb (length bs) 64) p.1 in
+    later_unparted b bs (is_blank b) refl (first_is_later b p.0) (all_unparted bs q.0)
+
+name_unparted : (name : Option (List ℕ)) → IsNameIfAny name → IsUnparted (name_text name)
+name_unparted None is = refl
+name_unparted (Some n) is = both n (codes ":") (whole_unparted n is) refl
+
+integer_unparted : (f : Form) (text : List ℕ) → IsInteger f text → IsUnparted text
+integer_unparted f text u8_text = refl
+integer_unparted f text u16_text = refl
+integer_unparted f text u32_text = refl
+integer_unparted f text u64_text = refl
+integer_unparted f text i8_text = refl
+integer_unparted f text i16_text = refl
+integer_unparted f text i32_text = refl
+integer_unparted f text i64_text = refl
+integer_unparted f text u16le_text = refl
+integer_unparted f text u32le_text = refl
+integer_unparted f text u64le_text = refl
+integer_unparted f text i16le_text = refl
+integer_unparted f text i32le_text = refl
+integer_unparted f text i64le_text = refl
+
+widths_unparted : (ws : Option (Width × Width)) → IsUnparted (widths_text ws)
+widths_unparted None = refl
+widths_unparted (Some ws) = both (width_text (Some ws.0)) (width_text (Some ws.1)) (width_unparted (Some ws.0)) (width_unparted (Some ws.1))
+
+room_unparted : (n : ℕ) → n < 2 ^ 32 → IsUnparted (room_text n)
+room_unparted n fits = between (codes "<") (decimal n) (codes ">") refl (decimal_unparted n fits) refl
+
 mutual
   pub shape_unparted : (f : Form) (text : List ℕ) → IsTextOf f text → IsUnparted text
   shape_unparted f text bool_text = refl
-  shape_unparted f text u8_text = refl
-  shape_unparted f text u16_text = refl
-  shape_unparted f text u32_text = refl
-  shape_unparted f text u64_text = refl
-  shape_unparted f text i8_text = refl
-  shape_unparted f text i16_text = refl
-  shape_unparted f text i32_text = refl
-  shape_unparted f text i64_text = refl
+  shape_unparted f text (integer_text g inner h) = integer_unparted g inner h
   shape_unparted f text (utf8_text w) = both (codes "utf8") (width_text w) refl (width_unparted w)
   shape_unparted f text (utf16_text w) = both (codes "utf16") (width_text w) refl (width_unparted w)
+  shape_unparted f text (utf8fix_text n fits) = both (codes "utf8fix") (room_text n) refl (room_unparted n fits)
+  shape_unparted f text (utf16fix_text n fits) = both (codes "utf16fix") (room_text n) refl (room_unparted n fits)
   shape_unparted f text (array_text w n e inner fits h) =
       between (codes "array") (width_text w) (repeated_text n inner) refl (width_unparted w) (repeated_unparted n inner fits (shape_unparted e inner h))
-  shape_unparted f text (fixed_text n e inner fits h) =
-      both (codes "fixed") (repeated_text n inner) refl (repeated_unparted n inner fits (shape_unparted e inner h))
+  shape_unparted f text (fixed_text w n e inner fits h) =
+      between (codes "fixed") (width_text w) (repeated_text n inner) refl (width_unparted w) (repeated_unparted n inner fits (shape_unparted e inner h))
   shape_unparted f text (struct_text w fs inner h) =
       between (codes "struct") (width_text w) (codes "(" ++ (inner ++ codes ")")) refl (width_unparted w)
       (between (codes "(") inner (codes ")") refl (members_unparted fs inner h) refl)
-  shape_unparted f text (union_text vs inner h) =
-      both (codes "union") (codes "(" ++ (inner ++ codes ")")) refl (between (codes "(") inner (codes ")") refl (variants_unparted vs inner h) refl)
+  shape_unparted f text (union_text ws vs inner h) =
+      between (codes "union") (widths_text ws) (codes "(" ++ (inner ++ codes ")")) refl (widths_unparted ws) (between (codes "(") inner (codes ")") refl (variants_unparted vs inner h) refl)
   shape_unparted f text (tagged_text w ms inner h) =
       between (codes "tagged") (width_text w) (codes "(" ++ (inner ++ codes ")")) refl (width_unparted w)
       (between (codes "(") inner (codes ")") refl (tagged_unparted ms inner h) refl)
 
   members_unparted : (fs : Forms) (text : List ℕ) → IsTextOfMembers fs text → IsUnparted text
-  members_unparted fs text (last_member f inner h) = shape_unparted f inner h
+  members_unparted fs text (last_member f inner h) = one_unparted f inner h
   members_unparted fs text (next_member f gs inner others h more) =
-      between inner (codes ",") others (shape_unparted f inner h) refl (members_unparted gs others more)
+      between inner (codes ",") others (one_unparted f inner h) refl (members_unparted gs others more)
+
+  one_unparted : (f : Form) (text : List ℕ) → IsTextOfMember f text → IsUnparted text
+  one_unparted f text (member_text name g inner is h) = both (name_text name) inner (name_unparted name is) (shape_unparted g inner h)
 
   variants_unparted : (vs : Variants) (text : List ℕ) → IsTextOfVariants vs text → IsUnparted text
   variants_unparted vs text (last_variant n f inner fits h) = number_unparted n inner fits (shape_unparted f inner h)
@@ -106,9 +153,12 @@ mutual
       between (decimal n ++ (codes ":" ++ inner)) (codes ",") others (number_unparted n inner fits (shape_unparted f inner h)) refl (variants_unparted ws others more)
 
   tagged_unparted : (ms : Members) (text : List ℕ) → IsTextOfTaggedMembers ms text → IsUnparted text
-  tagged_unparted ms text (last_tagged id optional f inner fits h) = member_unparted id optional inner fits (shape_unparted f inner h)
-  tagged_unparted ms text (next_tagged id optional f ns inner others fits h more) =
-      between (tagged_member_text id optional inner) (codes ",") others (member_unparted id optional inner fits (shape_unparted f inner h)) refl (tagged_unparted ns others more)
+  tagged_unparted ms text (last_tagged id optional f inner h) = one_tagged id optional f inner h
+  tagged_unparted ms text (next_tagged id optional f ns inner others h more) = between inner (codes ",") others (one_tagged id optional f inner h) refl (tagged_unparted ns others more)
+
+  one_tagged : (id : ℕ) (optional : Bool) (f : Form) (text : List ℕ) → IsTextOfTagged id optional f text → IsUnparted text
+  one_tagged id optional f text (tagged_one name at may g inner is fits h) =
+      both (name_text name) (tagged_member_text at may inner) (name_unparted name is) (member_unparted at may inner fits (shape_unparted g inner h))
 
 -- ---- parting a line
 

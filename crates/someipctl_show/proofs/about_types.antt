@@ -1,4 +1,3 @@
-pub mod DataTextLemmas
 pub mod PlaceLemmas
 pub mod IndexLemmas
 pub mod UnknownLemmas

@@ -11,7 +11,7 @@ use Rattle.someip_payload_values.specs.Check.{checked, depth}
 use Rattle.someip_payload_values.specs.Names.{fault_name, fault_place}
 use Rattle.someip_payload_codec.specs.Faults.{FaultIn, whole}
 use Rattle.someip_payload.specs.ShapeText.{IsTextOf}
-use Rattle.someip_payload_values.specs.ValueText.{value_text}
+use Rattle.someip_payload_values.specs.ValueText.{data_text}
 use Rattle.someipctl_io.specs.declared.fault.Fault.{Fault}
 use Rattle.someipctl_io.specs.declared.fault.Fault.TheVariants.{Refused, CannotRead, CannotWrite, OutOfMemory}
 use Rattle.someipctl_io.specs.declared.outcome.Outcome.{Outcome}
@@ -33,9 +33,9 @@ abbrev pub refusal_of_shape : ShapeTextError → Fault PayloadRefusal
 refusal_of_shape (shapes.BadShape place) = Refused (BadShape place)
 refusal_of_shape shapes.OutOfMemory = OutOfMemory
 
--- what is printed of a value that took n of so many bytes
-abbrev pub value_lines : Value → ℕ → ℕ → List ℕ
-value_lines value n all = codes "value " ++ value_text value ++ codes "\n" ++ (codes "used " ++ decimal n ++ codes " of " ++ decimal all ++ codes "\n")
+-- what is printed of a value of a shape that took n of so many bytes
+abbrev pub value_lines : Form → Value → ℕ → ℕ → List ℕ
+value_lines shape value n all = codes "value " ++ data_text shape (data_of value) ++ codes "\n" ++ (codes "used " ++ decimal n ++ codes " of " ++ decimal all ++ codes "\n")
 
 -- what is printed of a fault: its name and its place
 abbrev pub fault_text : PayloadError → List ℕ
@@ -50,9 +50,9 @@ abbrev pub ReadsFront : Form → List ℕ → Value → ℕ → Type 0
 ReadsFront shape bytes value n = (checked shape ≡ Ok tt) × (n ≤ length bytes) × Reads shape (data_of value) (take n bytes)
 
 -- what was found of the bytes by the shape and is printed: the value of a front of them, or their fault
-abbrev pub Told : Form → List ℕ → List ℕ → Outcome → Type 0
-Told shape bytes text Done = (value : Value) × (n : ℕ) × ReadsFront shape bytes value n × (text ≡ value_lines value n (length bytes))
-Told shape bytes text FaultShown = (fault : PayloadError) × (fault ≢ faults.OutOfMemory) × IsFaultOf shape bytes fault × (text ≡ fault_text fault)
+abbrev pub IsTold : Form → List ℕ → List ℕ → Outcome → Type 0
+IsTold shape bytes text Done = (value : Value) × (n : ℕ) × ReadsFront shape bytes value n × (text ≡ value_lines shape value n (length bytes))
+IsTold shape bytes text FaultShown = (fault : PayloadError) × (fault ≢ faults.OutOfMemory) × IsFaultOf shape bytes fault × (text ≡ fault_text fault)
 
 -- what the two arguments say, and what is printed of it
 pub record AnswersPayload (shape_text hex text : List ℕ) (outcome : Outcome) : Type 0 where
@@ -60,7 +60,7 @@ pub record AnswersPayload (shape_text hex text : List ℕ) (outcome : Outcome) :
   pub named : IsTextOf shape shape_text
   pub bytes : List ℕ
   pub says : argument_bytes hex ≡ Some bytes
-  pub told : Told shape bytes text outcome
+  pub told : IsTold shape bytes text outcome
 
 -- that text was written whole
 abbrev pub ShowsPayload : List ℕ → List ℕ → Outcome → Option (List ℕ) → Option (List ℕ) → Type 0

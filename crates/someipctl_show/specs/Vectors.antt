@@ -10,7 +10,7 @@ use Rattle.someipctl_show.specs.declared.vectors.BadVectorLine.{BadVectorLine}
 use Rattle.someip_texts.specs.Lines.{lines_of}
 use Rattle.someipctl_io.specs.Lines.{joined}
 use Rattle.someipctl_io.specs.Outcomes.{fault_outcome}
-use Rattle.someipctl_show.specs.Payload.{Told}
+use Rattle.someipctl_show.specs.Payload.{IsTold}
 use Rattle.someipctl_show.specs.ShownText.{datagram_text, no_types}
 use Rattle.someipctl_io.specs.Inputs.{WasLeft}
 use Rattle.someipctl_show.specs.VectorLines.{Asked, of_datagram, of_payload, Said, asks, expects, AreSaid, IsFirstBadLine}
@@ -40,7 +40,7 @@ vectors_in (asks asked ∷ sayings) = record { asked = asked; expected = expecte
 -- and of a payload that of `payload`
 abbrev pub IsPrintedOf : Asked → List ℕ → Type 0
 IsPrintedOf (of_datagram bytes) text = text ≡ datagram_text no_types 1 bytes
-IsPrintedOf (of_payload shape bytes) text = (outcome : Outcome) × Told shape bytes text outcome
+IsPrintedOf (of_payload shape bytes) text = (outcome : Outcome) × IsTold shape bytes text outcome
 
 -- a vector passes exactly where that text is the one that it expects
 abbrev pub IsJudged : Vector → Bool → Type 0

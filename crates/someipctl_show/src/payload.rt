@@ -5,10 +5,10 @@ ghost use Rattle.std.specs.Prelude.{◌≡◌, Some, None, IfErr, IfOk, string_b
 ghost use Rattle.std.specs.Option.{option_map};
 ghost use Rattle.someip_payload_values.specs.View.{form};
 ghost use Rattle.someipctl_show.specs.Payload.{argument_bytes, refusal_of_shape};
-ghost use Rattle.someipctl_show.specs.Payload.{ShowsPayload, RefusesPayload, Told};
+ghost use Rattle.someipctl_show.specs.Payload.{ShowsPayload, RefusesPayload, IsTold};
 
 use hex::FromHexError;
-use someip_payload::{PayloadError, Shape, ShapeTextError, decode, read_shape};
+use someip_payload::{PayloadError, Shape, ShapeTextError, Told, decode, read_shape};
 use someipctl_io::{Fault, Outcome, write_text};
 use std::alloc::{AllocError, Global};
 use std::io::Write;
@@ -66,13 +66,17 @@ pub fn read_text(
     shape: &Shape,
     bytes: &[u8],
 ) -> Result<(String, Outcome), AllocError>
-    ensures { IfOk result (λ r. Told (form shape.now) bytes.now (string_bytes r.0) r.1) }
+    ensures { IfOk result (λ r. IsTold (form shape.now) bytes.now (string_bytes r.0) r.1) }
 {
     let mut text = String::new(alloc);
     match decode(alloc, shape, bytes) {
         Ok((value, used)) => {
             let all = bytes.len();
-            writeln!(text, "value {value}")?;
+            let told = Told {
+                shape,
+                value: &value,
+            };
+            writeln!(text, "value {told}")?;
             writeln!(text, "used {used} of {all}")?;
             Ok((text, Outcome::Done))
         }

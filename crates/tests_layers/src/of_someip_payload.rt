@@ -1,10 +1,11 @@
 //! The rows of payloads: bytes, and the values that they are read as. Bytes that are no payload are rows of the sweep
 //! `texts`.
 use crate::rows::{Row, check, is_printed};
-use someip_payload::{PayloadError, Shape, Value, decode, encode, laws, read_shape};
+use someip_payload::{PayloadError, Shape, Told, Value, decode, encode, laws, read_shape};
 use std::alloc::Global;
 
 mod limits;
+mod more_forms;
 mod shapes;
 mod tagged;
 
@@ -38,8 +39,14 @@ impl Row for Read {
 impl Read {
     /// Whether the value is the one that is read from so many bytes, and is written as it should be.
     fn is_read_as(&self, alloc: Global, value: &Value, count: usize) -> Option<bool> {
-        let is_text = is_printed(alloc, value, self.2)?;
-        Some(is_text && count == self.3 && self.is_written(alloc, value)?)
+        Some(self.is_told(alloc, value)? && count == self.3 && self.is_written(alloc, value)?)
+    }
+
+    /// Whether this is the text of the value, with the names that the shape has.
+    fn is_told(&self, alloc: Global, value: &Value) -> Option<bool> {
+        let shape = read_shape(alloc, self.0).ok()?;
+        let shape = &shape;
+        is_printed(alloc, &Told { shape, value }, self.2)
     }
 
     /// Whether the value is written as the bytes that were read, where it is to be.

@@ -1,16 +1,18 @@
 -- Numbers and bodies that pass the window, and what is left after what was taken.
 use Rattle.std.proofs.Common.{◌≡◌, inl, inr, ℕ, ◌+◌, ◌<◌, Bool, true, false, cond, ltb, List, ◌++◌, length, take, drop, Result, Ok, Err, refl, sym, ap, subst, ◌∙◌}
-use Rattle.std.specs.Int.{byte_len, from_be_bytes}
+use Rattle.std.specs.Int.{byte_len}
 use Rattle.std.proofs.lemmas.Bool.{ltb-true}
 use Rattle.std.proofs.lemmas.List.{drop_at}
 use Rattle.someip_payload_values.specs.declared.error.PayloadError.{PayloadError}
+use Rattle.someip_payload_values.specs.declared.number.Order.{Order}
+use Rattle.someip_payload_values.specs.declared.number.Order.TheVariants.{Big}
 use Rattle.someip_payload_values.specs.declared.number.Size.{Size}
 use Rattle.someip_payload_values.specs.declared.shape.Width.{Width}
 use Rattle.someip_payload_codec.specs.View.{View}
 use Rattle.someip_payload_values.specs.Steps.{◌>>=◌}
 use Rattle.someip_payload_values.specs.Numbers.{width_of, size_of, framed}
 use Rattle.someip_payload_codec.specs.Grammar.{Picks}
-use Rattle.someip_payload_codec.specs.Reading.{short_at, skip, front_at, number_at, window_at, body_at}
+use Rattle.someip_payload_codec.specs.Reading.{short_at, skip, front_at, number_of, ordered_at, number_at, window_at, body_at}
 use Rattle.someip_payload_codec.specs.Faults.{body_view, HasBody, FaultInBody, FaultInNumber}
 use Rattle.someip_payload_values.proofs.StepLemmas.{err_is, bind_err}
 use Rattle.someip_payload_codec.proofs.parts.Parts.{IsBytes, same_view, Took, took_then, body_took, body_again}
@@ -27,13 +29,21 @@ pub picks_failed : {X : Type 0} (t : Bool) (A B : Type 0) (r s : Result X Payloa
 picks_failed true A B r s e first next h = first h
 picks_failed false A B r s e first next h = next h
 
-pub number_failed : (width : Size) (w : View) (e : PayloadError) → number_at width w ≡ Err e → FaultInNumber (byte_len (width_of width)) w e
-unfolding number_at
-number_failed width w e h =
-    elim (bind_err (front_at (byte_len (width_of width)) w) (λ front. Ok (from_be_bytes (width_of width) front.0, front.1)) e h) [
-      | inl first ↦ let g = guard_err (ltb (length w.bytes) (byte_len (width_of width))) (short_at w) e (take (byte_len (width_of width)) w.bytes, skip (byte_len (width_of width)) w) first in (ltb-true _ _ g.0, sym g.1)
+pub front_failed : (n : ℕ) (w : View) (e : PayloadError) → front_at n w ≡ Err e → FaultInNumber n w e
+front_failed n w e h =
+    let g = guard_err (ltb (length w.bytes) n) (short_at w) e (take n w.bytes, skip n w) h in
+    (ltb-true _ _ g.0, sym g.1)
+
+pub ordered_failed : (order : Order) (width : Size) (w : View) (e : PayloadError) → ordered_at order width w ≡ Err e → FaultInNumber (byte_len (width_of width)) w e
+unfolding ordered_at
+ordered_failed order width w e h =
+    elim (bind_err (front_at (byte_len (width_of width)) w) (λ front. Ok (number_of order width front.0, front.1)) e h) [
+      | inl first ↦ front_failed (byte_len (width_of width)) w e first
       | inr (x, was, then) ↦ absurd cc
     ]
+
+pub number_failed : (width : Size) (w : View) (e : PayloadError) → number_at width w ≡ Err e → FaultInNumber (byte_len (width_of width)) w e
+number_failed = ordered_failed Big
 
 pub window_failed : (n : ℕ) (w u : View) (e : PayloadError) → window_at n w u ≡ Err e → (length u.bytes < n) × (e ≡ short_at w)
 unfolding window_at

@@ -3,15 +3,17 @@ use Rattle.std.proofs.Common.{◌≡◌, ℕ, ◌+◌, ◌%◌, ◌<◌, ◌≤�
 use Rattle.std.specs.Int.{w8, byte_len, from_be_bytes}
 use Rattle.std.proofs.lemmas.Bool.{cases_lt, ltb-false, le-ltb}
 use Rattle.std.proofs.lemmas.List.{take_at, drop_at, take-append-drop, length-append, length-take, get_or_append_left, get_or-append-add, get_or_past}
-use Rattle.std.proofs.lemmas.Nat.{be_bytes_2, be_bytes_4, be_bytes_8, from_be_bytes-to_be_bytes_2, from_be_bytes-to_be_bytes_4, from_be_bytes-to_be_bytes_8}
+use Rattle.std.proofs.lemmas.Nat.{be_bytes_2, be_bytes_4, be_bytes_8, le_bytes_2, le_bytes_4, le_bytes_8, from_le_bytes-to_le_bytes_2, from_le_bytes-to_le_bytes_4, from_le_bytes-to_le_bytes_8, from_be_bytes-to_be_bytes_2, from_be_bytes-to_be_bytes_4, from_be_bytes-to_be_bytes_8}
 use Rattle.someip_payload_values.specs.declared.error.PayloadError.{PayloadError}
 use Rattle.someip_payload_values.specs.declared.shape.Width.{Width}
+use Rattle.someip_payload_values.specs.declared.number.Order.{Order}
+use Rattle.someip_payload_values.specs.declared.number.Order.TheVariants.{Big, Little}
 use Rattle.someip_payload_values.specs.declared.number.Size.{Size}
 use Rattle.someip_payload_values.specs.declared.number.Size.TheVariants.{S8, S16, S32, S64}
 use Rattle.someip_payload_codec.specs.View.{View}
-use Rattle.someip_payload_values.specs.Numbers.{width_of, limit_of, size_of, number, framed}
+use Rattle.someip_payload_values.specs.Numbers.{width_of, limit_of, size_of, number, number_in, framed}
 use Rattle.someip_payload_values.specs.Steps.{◌>>=◌}
-use Rattle.someip_payload_codec.specs.Reading.{short_at, skip, front_at, number_at, window_at, body_at}
+use Rattle.someip_payload_codec.specs.Reading.{short_at, skip, front_at, number_of, ordered_at, number_at, window_at, body_at}
 use Rattle.someip_payload_codec.specs.Faults.{body_view}
 
 pub record IsBytes (bytes : List ℕ) : Type 0 where
@@ -100,11 +102,14 @@ front_again n w v text p len =
 
 -- ---- numbers
 
-pub record IsWide (w : Size) : Type 0 where
-  pub len : (n : ℕ) → length (number w n) ≡ byte_len (width_of w)
-  pub back : (bytes : List ℕ) → length bytes ≡ byte_len (width_of w) → IsBytes bytes → number w (from_be_bytes (width_of w) bytes) ≡ bytes
-  pub again : (n : ℕ) → n < limit_of w → from_be_bytes (width_of w) (number w n) ≡ n
-  pub below : (bytes : List ℕ) → IsBytes bytes → from_be_bytes (width_of w) bytes < limit_of w
+pub record IsWideIn (order : Order) (w : Size) : Type 0 where
+  pub len : (n : ℕ) → length (number_in order w n) ≡ byte_len (width_of w)
+  pub back : (bytes : List ℕ) → length bytes ≡ byte_len (width_of w) → IsBytes bytes → number_in order w (number_of order w bytes) ≡ bytes
+  pub again : (n : ℕ) → n < limit_of w → number_of order w (number_in order w n) ≡ n
+  pub below : (bytes : List ℕ) → IsBytes bytes → number_of order w bytes < limit_of w
+
+abbrev pub IsWide : Size → Type 0
+IsWide = IsWideIn Big
 
 one_byte : (bytes : List ℕ) → length bytes ≡ 1 → IsBytes bytes → number S8 (from_be_bytes w8 bytes) ≡ bytes
 one_byte [] len fits = absurd (omega arith)
@@ -139,18 +144,58 @@ wide S64 = record {
   below = λ bytes fits. omega (arith, fits.each 0, fits.each 1, fits.each 2, fits.each 3, fits.each 4, fits.each 5, fits.each 6, fits.each 7);
 }
 
-pub number_took : (width : Size) (w v : View) (n : ℕ) → IsBytes w.bytes → number_at width w ≡ Ok (n, v) → Took w (number width n) v × (n < limit_of width)
-unfolding number_at
-number_took width w v n fits e =
-    let a = bind_ok (front_at (byte_len (width_of width)) w) (λ front. Ok (from_be_bytes (width_of width) front.0, front.1)) (n, v) e in
+one_small : (bytes : List ℕ) → length bytes ≡ 1 → IsBytes bytes → number_in Little S8 (number_of Little S8 bytes) ≡ bytes
+one_small [] len fits = absurd (omega arith)
+one_small (b ∷ []) len fits =
+    let same : b % 256 ≡ b = omega (arith, fits.each 0) in
+    ap (λ (x : ℕ). x ∷ []) same
+one_small (b ∷ c ∷ bs) len fits = absurd (omega (arith, len))
+
+pub wide_in : (order : Order) (w : Size) → IsWideIn order w
+wide_in Big w = wide w
+wide_in Little S8 = record {
+  len = λ n. refl;
+  back = one_small;
+  again = λ n lt. omega arith;
+  below = λ bytes fits. omega (arith, fits.each 0);
+}
+wide_in Little S16 = record {
+  len = λ n. refl;
+  back = λ bytes len fits. le_bytes_2 bytes _ len fits.each refl;
+  again = λ n lt. from_le_bytes-to_le_bytes_2 n lt;
+  below = λ bytes fits. omega (arith, fits.each 0, fits.each 1);
+}
+wide_in Little S32 = record {
+  len = λ n. refl;
+  back = λ bytes len fits. le_bytes_4 bytes _ len fits.each refl;
+  again = λ n lt. from_le_bytes-to_le_bytes_4 n lt;
+  below = λ bytes fits. omega (arith, fits.each 0, fits.each 1, fits.each 2, fits.each 3);
+}
+wide_in Little S64 = record {
+  len = λ n. refl;
+  back = λ bytes len fits. le_bytes_8 bytes _ len fits.each refl;
+  again = λ n lt. from_le_bytes-to_le_bytes_8 n lt;
+  below = λ bytes fits. omega (arith, fits.each 0, fits.each 1, fits.each 2, fits.each 3, fits.each 4, fits.each 5, fits.each 6, fits.each 7);
+}
+
+pub ordered_took : (order : Order) (width : Size) (w v : View) (n : ℕ) → IsBytes w.bytes → ordered_at order width w ≡ Ok (n, v) → Took w (number_in order width n) v × (n < limit_of width)
+unfolding ordered_at
+ordered_took order width w v n fits e =
+    let a = bind_ok (front_at (byte_len (width_of width)) w) (λ front. Ok (number_of order width front.0, front.1)) (n, v) e in
     let t = front_took (byte_len (width_of width)) w a.0.1 a.0.0 a.1 in
     let bytes = took_bytes fits t.0 in
-    subst (λ (x : ℕ × View). Took w (number width x.0) x.1 × (x.0 < limit_of width)) (ok_is (from_be_bytes (width_of width) a.0.0, a.0.1) (n, v) a.2)
-    (rw ((wide width).back a.0.0 t.1 bytes.0) t.0, (wide width).below a.0.0 bytes.0)
+    subst (λ (x : ℕ × View). Took w (number_in order width x.0) x.1 × (x.0 < limit_of width)) (ok_is (number_of order width a.0.0, a.0.1) (n, v) a.2)
+    (rw ((wide_in order width).back a.0.0 t.1 bytes.0) t.0, (wide_in order width).below a.0.0 bytes.0)
+
+pub number_took : (width : Size) (w v : View) (n : ℕ) → IsBytes w.bytes → number_at width w ≡ Ok (n, v) → Took w (number width n) v × (n < limit_of width)
+number_took = ordered_took Big
+
+pub ordered_again : (order : Order) (width : Size) (w v : View) (n : ℕ) → Took w (number_in order width n) v → n < limit_of width → ordered_at order width w ≡ Ok (n, v)
+unfolding ordered_at
+ordered_again order width w v n p lt = rw (front_again (byte_len (width_of width)) w v (number_in order width n) p ((wide_in order width).len n), (wide_in order width).again n lt) refl
 
 pub number_again : (width : Size) (w v : View) (n : ℕ) → Took w (number width n) v → n < limit_of width → number_at width w ≡ Ok (n, v)
-unfolding number_at
-number_again width w v n p lt = rw (front_again (byte_len (width_of width)) w v (number width n) p ((wide width).len n), (wide width).again n lt) refl
+number_again = ordered_again Big
 
 -- ---- bodies
 

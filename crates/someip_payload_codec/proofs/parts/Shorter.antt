@@ -1,9 +1,11 @@
 -- What is left to read after an item of a tagged structure is shorter.
 use Rattle.std.proofs.Common.{◌≡◌, ◌⊎◌, inl, inr, ℕ, ◌+◌, ◌<◌, ◌≤◌, Bool, true, false, cond, eqb, ltb, List, length, take, Some, None, Result, Ok, Err, subst, arith, length-drop}
-use Rattle.std.specs.Int.{byte_len, from_be_bytes}
+use Rattle.std.specs.Int.{byte_len}
 use Rattle.std.proofs.lemmas.Bool.{ltb-false}
 use Rattle.someip_payload_values.specs.declared.error.PayloadError.{PayloadError}
 use Rattle.someip_payload_values.specs.declared.error.PayloadError.TheVariants.{DuplicateMember, LengthMismatch, WrongWireType}
+use Rattle.someip_payload_values.specs.declared.number.Order.{Order}
+use Rattle.someip_payload_values.specs.declared.number.Order.TheVariants.{Big}
 use Rattle.someip_payload_values.specs.declared.number.Size.{Size}
 use Rattle.someip_payload_values.specs.declared.number.Size.TheVariants.{S8, S16, S32}
 use Rattle.someip_payload_values.specs.declared.shape.Width.{Width}
@@ -11,12 +13,12 @@ use Rattle.someip_payload_values.specs.declared.shape.Width.TheVariants.{W32}
 use Rattle.someip_payload_values.specs.declared.tag.WireType.{WireType}
 use Rattle.someip_payload_values.specs.declared.tag.WireType.TheVariants.{Basic, OwnLength, Length}
 use Rattle.someip_payload_values.specs.declared.tag.Tag.{Tag}
-use Rattle.someip_payload_values.specs.Data.{Form, bool, unsigned, signed, string, array, fixed, «struct», union, tagged, Variants, no_variants, variant, Members, no_members, member_then, Data, truth, uint, int, phrase, list, tuple, nothing, chosen, slotted, Slots, no_slots, present, absent}
+use Rattle.someip_payload_values.specs.Data.{Form, bool, unsigned, signed, string, padded, array, fixed, «struct», union, tagged, named, enumerated, Variants, no_variants, variant, Members, no_members, member_then, Data, truth, uint, int, phrase, list, tuple, nothing, chosen, slotted, Slots, no_slots, present, absent}
 use Rattle.someip_payload_codec.specs.View.{View}
 use Rattle.someip_payload_values.specs.Numbers.{width_of, size_of, is_odd}
 use Rattle.someip_payload_values.specs.Tags.{own_width, has_wire_type, width_in, tag_in}
 use Rattle.someip_payload_values.specs.Steps.{◌>>=◌}
-use Rattle.someip_payload_codec.specs.Reading.{short_at, skip, front_at, signed_of, number_at, window_at, body_at, text_at, items_at, members_at, union_at, chosen_at, variant_at, data_by, tag_at, skip_at, item_by, item_at, tagged_at, all_absent, required_at, member_at, slots_at}
+use Rattle.someip_payload_codec.specs.Reading.{short_at, skip, front_at, signed_of, number_of, ordered_at, number_at, window_at, body_at, text_at, items_at, fixed_at, members_at, union_at, chosen_at, variant_at, data_by, tag_at, skip_at, item_by, item_at, tagged_at, all_absent, required_at, member_at, slots_at}
 use Rattle.someip_payload_codec.proofs.parts.Parts.{bind_ok, guard_ok, ok_is}
 use Rattle.someip_payload_values.proofs.StepLemmas.{passed, kept}
 
@@ -39,16 +41,22 @@ either false r s y e = inr e
 skip_left : (n : ℕ) (w : View) → NoLonger w (skip n w)
 skip_left n w = omega (arith, length-drop n w.bytes)
 
-number_shorter : (size : Size) (w v : View) (n : ℕ) → number_at size w ≡ Ok (n, v) → length v.bytes + byte_len (width_of size) ≤ length w.bytes
-unfolding number_at
-number_shorter size w v n e =
+ordered_shorter : (order : Order) (size : Size) (w v : View) (n : ℕ) → ordered_at order size w ≡ Ok (n, v) → length v.bytes + byte_len (width_of size) ≤ length w.bytes
+unfolding ordered_at
+ordered_shorter order size w v n e =
     let len = byte_len (width_of size) in
-    let a = bind_ok (front_at len w) (λ front. Ok (from_be_bytes (width_of size) front.0, front.1)) (n, v) e in
+    let a = bind_ok (front_at len w) (λ front. Ok (number_of order size front.0, front.1)) (n, v) e in
     let g = guard_ok (ltb (length w.bytes) len) (short_at w) (take len w.bytes, skip len w) a.0 a.1 in
     let long : len ≤ length w.bytes = ltb-false _ _ g.0 in
     let enough : length (skip len w).bytes + len ≤ length w.bytes = omega (arith, length-drop len w.bytes) in
     let after : length a.0.1.bytes + len ≤ length w.bytes = subst (λ (x : List ℕ × View). length x.1.bytes + len ≤ length w.bytes) g.1 enough in
-    subst (λ (x : ℕ × View). length x.1.bytes + len ≤ length w.bytes) (ok_is (from_be_bytes (width_of size) a.0.0, a.0.1) (n, v) a.2) after
+    subst (λ (x : ℕ × View). length x.1.bytes + len ≤ length w.bytes) (ok_is (number_of order size a.0.0, a.0.1) (n, v) a.2) after
+
+number_shorter : (size : Size) (w v : View) (n : ℕ) → number_at size w ≡ Ok (n, v) → length v.bytes + byte_len (width_of size) ≤ length w.bytes
+number_shorter = ordered_shorter Big
+
+ordered_left : (order : Order) (size : Size) (w v : View) (n : ℕ) → ordered_at order size w ≡ Ok (n, v) → NoLonger w v
+ordered_left order size w v n e = omega (arith, ordered_shorter order size w v n e)
 
 number_left : (size : Size) (w v : View) (n : ℕ) → number_at size w ≡ Ok (n, v) → NoLonger w v
 number_left size w v n e = omega (arith, number_shorter size w v n e)
@@ -95,15 +103,15 @@ variant_left (variant n f vs) kind len place w u v d e =
       | inr h ↦ variant_left vs kind len place w u v d h
     ]
 
-union_left : (width : Width) (vs : Variants) (w v : View) (d : Data) → union_at width (λ kind len place u. variant_at vs kind len place w u) w ≡ Ok (d, v) → NoLonger w v
+union_left : (width type : Width) (vs : Variants) (w v : View) (d : Data) → union_at width type (λ kind len place u. variant_at vs kind len place w u) w ≡ Ok (d, v) → NoLonger w v
 unfolding union_at
-union_left width vs w v d e =
+union_left width type vs w v d e =
     let none = λ (len : ℕ) (kind : ℕ × View). cond (eqb len 0) (Ok (nothing, kind.1)) (Err (LengthMismatch w.place)) in
     let second = λ (len : ℕ) (m : View) (kind : ℕ × View). cond (eqb kind.0 0) (none len kind) (variant_at vs kind.0 len m.place w kind.1) in
-    let a = bind_ok (number_at (size_of width) w) (λ len. number_at S32 len.1 >>= second len.0 len.1) (d, v) e in
-    let b = bind_ok (number_at S32 a.0.1) (second a.0.0 a.0.1) (d, v) a.2 in
+    let a = bind_ok (number_at (size_of width) w) (λ len. number_at (size_of type) len.1 >>= second len.0 len.1) (d, v) e in
+    let b = bind_ok (number_at (size_of type) a.0.1) (second a.0.0 a.0.1) (d, v) a.2 in
     let first = number_left (size_of width) w a.0.1 a.0.0 a.1 in
-    let both : NoLonger w b.0.1 = omega (arith, first, number_left S32 a.0.1 b.0.1 b.0.0 b.1) in
+    let both : NoLonger w b.0.1 = omega (arith, first, number_left (size_of type) a.0.1 b.0.1 b.0.0 b.1) in
     elim (either (eqb b.0.0 0) (none a.0.0 b.0) (variant_at vs b.0.0 a.0.0 a.0.1.place w b.0.1) (d, v) b.2) [
       | inl h ↦ step w b.0.1 v nothing d both (passed (eqb a.0.0 0) (Ok (nothing, b.0.1)) (LengthMismatch w.place) (d, v) h).1
       | inr h ↦ omega (arith, both, variant_left vs b.0.0 a.0.0 a.0.1.place w b.0.1 v d h)
@@ -117,12 +125,15 @@ unfolding data_by
 value_left bool t width w v d can e =
     let a = bind_ok (number_at S8 w) (λ n. Ok (truth (is_odd n.0), n.1)) (d, v) e in
     step w a.0.1 v (truth (is_odd a.0.0)) d (number_left S8 w a.0.1 a.0.0 a.1) a.2
-value_left (unsigned size) t width w v d can e =
-    let a = bind_ok (number_at size w) (λ n. Ok (uint n.0, n.1)) (d, v) e in
-    step w a.0.1 v (uint a.0.0) d (number_left size w a.0.1 a.0.0 a.1) a.2
-value_left (signed size) t width w v d can e =
-    let a = bind_ok (number_at size w) (λ n. Ok (int (signed_of size n.0), n.1)) (d, v) e in
-    step w a.0.1 v (int (signed_of size a.0.0)) d (number_left size w a.0.1 a.0.0 a.1) a.2
+value_left (named n f) t width w v d can e = value_left f t width w v d can e
+value_left (enumerated f labels) t width w v d can e = value_left f t width w v d can e
+value_left (padded encoding n) t width w v d can e = absurd cc
+value_left (unsigned order size) t width w v d can e =
+    let a = bind_ok (ordered_at order size w) (λ n. Ok (uint n.0, n.1)) (d, v) e in
+    step w a.0.1 v (uint a.0.0) d (ordered_left order size w a.0.1 a.0.0 a.1) a.2
+value_left (signed order size) t width w v d can e =
+    let a = bind_ok (ordered_at order size w) (λ n. Ok (int (signed_of size n.0), n.1)) (d, v) e in
+    step w a.0.1 v (int (signed_of size a.0.0)) d (ordered_left order size w a.0.1 a.0.0 a.1) a.2
 value_left (string encoding own) t width w v d can e =
     let a = bind_ok (body_at width w) (λ body. text_at encoding w.place body.0.bytes >>= λ s. Ok (phrase s, body.1)) (d, v) e in
     let b = bind_ok (text_at encoding w.place a.0.0.bytes) (λ s. Ok (phrase s, a.0.1)) (d, v) a.2 in
@@ -132,13 +143,18 @@ value_left (array own most element) t width w v d can e =
     let a = bind_ok (body_at width w) (λ body. items_at one most body.0 >>= λ items. Ok (list items, body.1)) (d, v) e in
     let b = bind_ok (items_at one most a.0.0) (λ items. Ok (list items, a.0.1)) (d, v) a.2 in
     step w a.0.1 v (list b.0) d (body_left width w a.0.0 a.0.1 a.1) b.2
-value_left (fixed n element) t width w v d can e = absurd cc
+value_left (fixed None n element) t width w v d can e = absurd cc
+value_left (fixed (Some own) n element) t width w v d can e =
+    let one = data_by (own_width element) element in
+    let a = bind_ok (body_at width w) (λ body. fixed_at one n body.0 >>= λ items. Ok (list items.0, body.1)) (d, v) e in
+    let b = bind_ok (fixed_at one n a.0.0) (λ items. Ok (list items.0, a.0.1)) (d, v) a.2 in
+    step w a.0.1 v (list b.0.0) d (body_left width w a.0.0 a.0.1 a.1) b.2
 value_left («struct» None fs) t width w v d can e = absurd cc
 value_left («struct» (Some own) fs) t width w v d can e =
     let a = bind_ok (body_at width w) (λ body. members_at fs body.0 >>= λ members. Ok (tuple members.0, body.1)) (d, v) e in
     let b = bind_ok (members_at fs a.0.0) (λ members. Ok (tuple members.0, a.0.1)) (d, v) a.2 in
     step w a.0.1 v (tuple b.0.0) d (body_left width w a.0.0 a.0.1 a.1) b.2
-value_left (union vs) t width w v d can e = union_left width vs w v d e
+value_left (union own type vs) t width w v d can e = union_left width type vs w v d e
 value_left (tagged own ms) t width w v d can e =
     let items = λ (b : View). tagged_at (item_by (slots_at ms)) (length b.bytes) (all_absent ms) b in
     let a = bind_ok (body_at width w) (λ body. items body.0 >>= λ ss. required_at ms w.place ss >>= λ whole. Ok (slotted whole, body.1)) (d, v) e in

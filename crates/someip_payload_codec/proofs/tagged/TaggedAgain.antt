@@ -14,7 +14,7 @@ use Rattle.someip_payload_codec.specs.View.{View}
 use Rattle.someip_payload_values.specs.Numbers.{width_of, number}
 use Rattle.someip_payload_values.specs.Tags.{TaggedItem, tag_number, item_bytes, items_bytes, with_id, Skips, has_wire_type, width_in}
 use Rattle.someip_payload_codec.specs.Grammar.{is_member, SkipsOthers, ReadsBy, ReadsItems}
-use Rattle.someip_payload_codec.specs.Reading.{skip, number_at, tag_at, skip_at, Filler, item_by, tagged_at, all_absent, member_at, data_by, slots_at, item_at}
+use Rattle.someip_payload_codec.specs.Reading.{skip, ordered_at, number_at, tag_at, skip_at, Filler, item_by, tagged_at, all_absent, member_at, data_by, slots_at, item_at}
 use Rattle.someip_payload_codec.proofs.parts.Forms.{AreMembers}
 use Rattle.someip_payload_codec.proofs.parts.Parts.{same_view, Took, took_split, front_again, number_again, body_again}
 use Rattle.someip_payload_codec.proofs.tagged.TagLemmas.{tag_says, tag_below}
@@ -88,7 +88,7 @@ awaits_others _ cs ss i items other h = absurd h
 -- ---- one item
 
 skip_again : (t : WireType) (w v : View) (bytes : List ℕ) → Skips t bytes → Took w bytes v → skip_at t w ≡ Ok v
-unfolding skip_at number_at
+unfolding skip_at ordered_at
 skip_again (Basic size) w v bytes h p = rw (front_again (byte_len (width_of size)) w v bytes p h) refl
 skip_again OwnLength w v bytes (body, fits, e, is) p = rw (body_again W32 w v body (rw e at p) fits) refl
 skip_again (Length width) w v bytes (body, fits, e, is) p = rw (body_again width w v body (rw e at p) fits) refl

@@ -1,9 +1,10 @@
 -- Tagged structures as the loops read them: where the members stand, and which of them were read.
-use Rattle.std.proofs.Common.{◌≡◌, ◌⊎◌, inl, inr, ℕ, suc, zero, ◌+◌, ◌<◌, ◌≤◌, Bool, true, false, cond, eqb, List, [], ◌∷◌, map, length, drop, get_or, set, Option, Some, None, Result, Ok, Err, rules, refl, sym, ap, ◌∙◌, arith}
+use Rattle.std.proofs.Common.{◌≡◌, ◌⊎◌, inl, inr, ℕ, suc, zero, ◌+◌, ◌<◌, ◌≤◌, Bool, true, false, cond, eqb, List, [], ◌∷◌, ◌++◌, replicate, map, length, drop, get_or, set, Option, Some, None, Result, Ok, Err, rules, refl, sym, ap, ◌∙◌, arith}
 use Rattle.std.specs.Option.{option_map, is_some}
 use Rattle.std.specs.Ordering.{nat_cmp}
 use Rattle.std.specs.BTreeMap as tree
 use Rattle.std.specs.BTreeMap.{BTreeMap}
+use native.Mathlib.Numerals.{unary_clauses}
 use Rattle.std.proofs.lemmas.Bool.{lt-ltb}
 use Rattle.std.proofs.lemmas.List.{drop_more}
 use Rattle.someip_payload_values.specs.declared.error.PayloadError.{PayloadError}
@@ -211,3 +212,18 @@ tagged_done one zero ss w total empty so_far = sym so_far
 tagged_done one (suc left) ss w total empty so_far =
     let step : tagged_at one (suc left) ss w ≡ Ok ss = rw empty refl in
     sym so_far ∙ step
+
+-- so many that are absent
+one_none : (n : ℕ) → replicate {A = Option Value} n None ++ None ∷ [] ≡ replicate (suc n) None
+one_none zero = refl
+one_none (suc n) = ap (λ (x : List (Option Value)). None ∷ x) (one_none n)
+
+pub one_none_more : (n : ℕ) → replicate {A = Option Value} n None ++ None ∷ [] ≡ replicate (n + 1) None
+one_none_more n = simp unary_clauses (one_none n)
+
+pub all_none : (ms : List Member) (n : ℕ) → n ≡ length ms → replicate {A = Option Value} n None ≡ map (λ _. None) ms
+all_none ms n same = rw same (each ms)
+  where
+    each : (ms : List Member) → replicate {A = Option Value} (length ms) None ≡ map (λ _. None) ms
+    each [] = refl
+    each (m ∷ ms) = ap (λ (x : List (Option Value)). None ∷ x) (each ms)

@@ -1,9 +1,11 @@
 -- The items that are written of a tagged structure: each is one of a member.
-use Rattle.std.proofs.Common.{◌≡◌, ℕ, ◌<◌, ◌^◌, Bool, true, false, eqb, ◌||◌, List, [], ◌∷◌, Some, None, refl, sym, subst}
+use Rattle.std.proofs.Common.{◌≡◌, ℕ, ◌<◌, ◌^◌, Bool, true, false, eqb, ◌||◌, List, [], ◌∷◌, Some, None, refl, sym, ◌∙◌, subst}
 use Rattle.std.proofs.lemmas.Bool.{eq-eqb, ne_eqb}
 use Rattle.someip_payload_values.specs.declared.number.Size.{Size}
 use Rattle.someip_payload_values.specs.declared.number.Size.TheVariants.{S8, S16, S32, S64}
-use Rattle.someip_payload_values.specs.Data.{Form, bool, unsigned, signed, string, array, fixed, «struct», union, tagged, Members, no_members, member_then, Slots, no_slots, present, absent}
+use Rattle.someip_payload_values.specs.declared.tag.WireType.{WireType}
+use Rattle.someip_payload_values.specs.declared.tag.WireType.TheVariants.{Basic, OwnLength, Length}
+use Rattle.someip_payload_values.specs.Data.{Form, bool, unsigned, signed, string, padded, array, fixed, «struct», union, tagged, named, enumerated, Members, no_members, member_then, Slots, no_slots, present, absent}
 use Rattle.someip_payload_values.specs.Check.{can_be_tagged}
 use Rattle.someip_payload_values.specs.Tags.{TaggedItem, with_id, own_width, same_size, has_wire_type, width_in, wire_type_of}
 use Rattle.someip_payload_codec.specs.Grammar.{is_member, SkipsOthers, ReadsItems}
@@ -17,27 +19,41 @@ size_itself S64 = refl
 -- an item is written with a wire type that its form may have
 pub own_type : (f : Form) → can_be_tagged f ≡ true → has_wire_type f (wire_type_of f) ≡ true
 own_type bool can = refl
-own_type (unsigned size) can = size_itself size
-own_type (signed size) can = size_itself size
+own_type (named n f) can = own_type f can
+own_type (enumerated f labels) can = own_type f can
+own_type (padded encoding n) can = absurd cc
+own_type (unsigned order size) can = size_itself size
+own_type (signed order size) can = size_itself size
 own_type (string encoding width) can = refl
 own_type (array width most element) can = refl
-own_type (fixed n element) can = absurd cc
+own_type (fixed None n element) can = absurd cc
+own_type (fixed (Some width) n element) can = refl
 own_type («struct» None fs) can = absurd cc
 own_type («struct» (Some width) fs) can = refl
-own_type (union vs) can = refl
+own_type (union width type vs) can = refl
 own_type (tagged width ms) can = refl
+
+-- a form with the same length field
+inner_width : (t : WireType) (f g : Form) → own_width f ≡ own_width g → width_in t f ≡ width_in t g
+inner_width (Basic size) f g same = same
+inner_width OwnLength f g same = same
+inner_width (Length width) f g same = refl
 
 -- which says that its length field has the form's own width
 pub own_width_in : (f : Form) → width_in (wire_type_of f) f ≡ own_width f
 own_width_in bool = refl
-own_width_in (unsigned size) = refl
-own_width_in (signed size) = refl
+own_width_in (named n f) = inner_width (wire_type_of f) (named n f) f refl ∙ own_width_in f
+own_width_in (enumerated f labels) = inner_width (wire_type_of f) (enumerated f labels) f refl ∙ own_width_in f
+own_width_in (padded encoding n) = refl
+own_width_in (unsigned order size) = refl
+own_width_in (signed order size) = refl
 own_width_in (string encoding width) = refl
 own_width_in (array width most element) = refl
-own_width_in (fixed n element) = refl
+own_width_in (fixed None n element) = refl
+own_width_in (fixed (Some width) n element) = refl
 own_width_in («struct» None fs) = refl
 own_width_in («struct» (Some width) fs) = refl
-own_width_in (union vs) = refl
+own_width_in (union width type vs) = refl
 own_width_in (tagged width ms) = refl
 
 -- each item is one of a member

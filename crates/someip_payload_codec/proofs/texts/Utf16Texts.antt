@@ -17,7 +17,7 @@ use Rattle.someip_payload_values.proofs.Strings.{flat_map-append}
 use Rattle.someip_payload_codec.proofs.texts.Utf8Texts.{ended_split, ended_is, ended_front}
 use Rattle.someip_payload_codec.proofs.texts.Utf16Units.{IsUnits, tail_units, front_units, units_short, units_again, units_split, units_fit, units_append, bytes_even, none_unpaired, lossy_again, lossy_spells, marked_units}
 
-abbrev is_text : List ℕ → Bool
+abbrev pub is_text : List ℕ → Bool
 is_text units = eqb (get_or units 0 0) utf16_mark && not (has_unpaired_surrogate (inner units))
 
 -- a mark, the units between, and a zero
@@ -29,7 +29,7 @@ not_true : (b : Bool) → not b ≡ true → b ≡ false
 not_true true e = absurd cc
 not_true false e = refl
 
-text_split : (units : List ℕ) → is_ended units ≡ true → is_text units ≡ true → (units ≡ utf16_mark ∷ (inner units ++ 0 ∷ [])) × (has_unpaired_surrogate (inner units) ≡ false)
+pub text_split : (units : List ℕ) → is_ended units ≡ true → is_text units ≡ true → (units ≡ utf16_mark ∷ (inner units ++ 0 ∷ [])) × (has_unpaired_surrogate (inner units) ≡ false)
 text_split units ended good =
     let p = and_parts (eqb (get_or units 0 0) utf16_mark) (not (has_unpaired_surrogate (inner units))) good in
     let t = take (length units - 1) units in
@@ -54,7 +54,7 @@ utf16_took place body s fits h =
     (big, cs, extra, spells.1, sym same, short, e ∙ ap (λ (x : List ℕ). flat_map (unit_bytes big) x ++ extra) whole)
 
 -- the order of the bytes is seen at the mark
-order_seen : (big : Bool) (rest : List ℕ) → not (is_little (unit_bytes big utf16_mark ++ rest)) ≡ big
+pub order_seen : (big : Bool) (rest : List ℕ) → not (is_little (unit_bytes big utf16_mark ++ rest)) ≡ big
 order_seen true rest = rw (lt-ltb 1 (length (0xFE ∷ 0xFF ∷ rest)) (omega arith)) refl
 order_seen false rest = rw (lt-ltb 1 (length (0xFF ∷ 0xFE ∷ rest)) (omega arith)) refl
 

@@ -89,10 +89,10 @@ bytes_even false (u ∷ us) = omega (arith, bytes_even false us)
 
 -- ---- characters of units
 
-one_unit : (c : ℕ) → c < 0x1_0000 → encode_utf16 c ≡ c ∷ []
+pub one_unit : (c : ℕ) → c < 0x1_0000 → encode_utf16 c ≡ c ∷ []
 one_unit c h = rw (lt-ltb c 0x1_0000 h)
 
-two_units : (c : ℕ) → 0x1_0000 ≤ c → encode_utf16 c ≡ (0xD800 + (c - 0x1_0000) / 0x400) ∷ (0xDC00 + (c - 0x1_0000) % 0x400) ∷ []
+pub two_units : (c : ℕ) → 0x1_0000 ≤ c → encode_utf16 c ≡ (0xD800 + (c - 0x1_0000) / 0x400) ∷ (0xDC00 + (c - 0x1_0000) % 0x400) ∷ []
 two_units c h = rw (le-ltb c 0x1_0000 h)
 
 lone_low : (u : ℕ) → u < 0xD800 → lone_unit_char u ≡ Some u

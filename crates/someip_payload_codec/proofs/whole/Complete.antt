@@ -10,18 +10,20 @@ use Rattle.someip_payload_values.specs.declared.error.PayloadError.{PayloadError
 use Rattle.someip_payload_values.specs.declared.error.PayloadError.TheVariants.{LengthMismatch}
 use Rattle.someip_payload_values.specs.declared.number.Size.{Size}
 use Rattle.someip_payload_values.specs.declared.number.Size.TheVariants.{S8, S16, S32, S64}
+use Rattle.someip_payload_values.specs.declared.number.Order.{Order}
 use Rattle.someip_payload_values.specs.declared.shape.Width.{Width}
 use Rattle.someip_payload_values.specs.declared.shape.Width.TheVariants.{W8, W16, W32}
-use Rattle.someip_payload_values.specs.Data.{Form, bool, unsigned, signed, string, array, fixed, «struct», union, tagged, Forms, no_forms, form_then, Variants, no_variants, variant, Members, no_members, member_then, Data, truth, uint, int, phrase, list, tuple, nothing, chosen, slotted, Items, no_items, item, Slots, count}
+use Rattle.someip_payload_values.specs.Data.{Form, bool, unsigned, signed, string, padded, array, fixed, «struct», union, tagged, named, enumerated, Forms, no_forms, form_then, Variants, no_variants, variant, Members, no_members, member_then, Data, truth, uint, int, phrase, list, tuple, nothing, chosen, slotted, Items, no_items, item, Slots, count}
 use Rattle.someip_payload_codec.specs.View.{View}
-use Rattle.someip_payload_values.specs.Numbers.{width_of, limit_of, size_of, number, Begins}
+use Rattle.someip_payload_values.specs.Numbers.{width_of, limit_of, size_of, number, number_in, Begins}
 use Rattle.someip_payload_values.specs.Tags.{items_bytes, own_width}
 use Rattle.someip_payload_codec.specs.Grammar.{Picks, Each, has_required, ReadsBy, ReadsMembers, ReadsVariant}
 use Rattle.someip_payload_codec.specs.Reading.{skip, items_at, fixed_at, union_at, chosen_at, required_at, item_at, data_by, members_at, variant_at}
 use Rattle.someip_payload_codec.proofs.parts.Forms.{IsForm, AreForms, AreVariants, AreMembers}
 use Rattle.someip_payload_codec.specs.Faults.{body_view}
-use Rattle.someip_payload_codec.proofs.parts.Parts.{Took, took_split, wide, number_again, window_again, body_again}
+use Rattle.someip_payload_codec.proofs.parts.Parts.{Took, took_split, front_again, wide, wide_in, ordered_again, number_again, window_again, body_again}
 use Rattle.someip_payload_codec.proofs.texts.TextLemmas.{text_again}
+use Rattle.someip_payload_codec.proofs.texts.PaddedTexts.{padded_again}
 use Rattle.someip_payload_codec.proofs.tagged.TaggedAgain.{none_taken, EachAgain, tagged_again, tagged_end}
 
 -- a reader that takes each text of P, none of which is empty
@@ -69,6 +71,9 @@ one_at_least S64 = omega arith
 number_some : (size : Size) (n : ℕ) → 0 < length (number size n)
 number_some size n = omega (arith, (wide size).len n, one_at_least size)
 
+ordered_some : (order : Order) (size : Size) (n : ℕ) → 0 < length (number_in order size n)
+ordered_some order size n = omega (arith, (wide_in order size).len n, one_at_least size)
+
 before_some : (a b : List ℕ) → 0 < length a → 0 < length (a ++ b)
 before_some a b some = omega (arith, length-append a b)
 
@@ -82,18 +87,22 @@ framed_some width n body = before_some (number (size_of width) n) body (number_s
 -- what a form reads is not empty
 pub reads_some : (width : Width) (f : Form) (d : Data) (text : List ℕ) → IsForm f → ReadsBy width f d text → 0 < length text
 unfolding ReadsBy ReadsMembers
+reads_some width (named n f) d text is h = reads_some width f d text is h
+reads_some width (enumerated f labels) d text is h = reads_some width f d text is h
 reads_some width bool (truth b) text is (n, below, e, same) = rw e (number_some S8 n)
-reads_some width (unsigned size) (uint n) text is h = rw h.1 (number_some size n)
-reads_some width (signed size) (int z) text is h = rw h.1 (number_some size (cast_unsigned (width_of size) z))
+reads_some width (unsigned order size) (uint n) text is h = rw h.1 (ordered_some order size n)
+reads_some width (signed order size) (int z) text is h = rw h.1 (ordered_some order size (cast_unsigned (width_of size) z))
+reads_some width (padded encoding n) (phrase s) text is h = omega (arith, h.0, is)
 reads_some width (string encoding own) (phrase s) text is (body, short, e, spells) = rw e (framed_some width (length body) body)
 reads_some width (array own max element) (list ds) text is (few, (body, short, e, each)) = rw e (framed_some width (length body) body)
-reads_some width (fixed n element) (list ds) text is h =
+reads_some width (fixed (Some own) n element) (list ds) text is (full, (body, short, e, each)) = rw e (framed_some width (length body) body)
+reads_some width (fixed None n element) (list ds) text is h =
     each_some (ReadsBy (own_width element) element) (λ d bytes. reads_some (own_width element) element d bytes is.1) n ds text is.0 h.0 h.1
 reads_some width («struct» (Some own) fs) (tuple ds) text is (body, short, e, begins) = rw e (framed_some width (length body) body)
 reads_some width («struct» None (form_then f fs)) (tuple (item d ds)) text is (first, others, e, here, later) = rw e (before_some first others (reads_some (own_width f) f d first is.1.0 here))
 reads_some width («struct» None no_forms) d text is h = absurd is.0
-reads_some width (union vs) nothing text is h = rw h (framed_some width 0 (number S32 0))
-reads_some width (union vs) (chosen kind d) text is (some, below, (body, short, e, begins)) = rw e (framed_some width (length body) (number S32 kind ++ body))
+reads_some width (union own type vs) nothing text is h = rw h (framed_some width 0 (number (size_of type) 0 ++ []))
+reads_some width (union own type vs) (chosen kind d) text is (some, below, (body, short, e, begins)) = rw e (framed_some width (length body) (number (size_of type) kind ++ body))
 reads_some width (tagged own ms) (slotted ss) text is ((body, short, e, items), required) = rw e (framed_some width (length body) body)
 reads_some width _ d text is h = absurd h
 
@@ -126,16 +135,16 @@ chosen_again one P complete kind w u v d body p (front, more, e, holds) =
     rw (window_again w u v body p, complete.gives b (skip (length front) b) d front holds t.0) refl
 
 -- the length and the type number of a union, and what stands after them
-union_head : (width : Width) (known : ℕ → ℕ → ℕ → View → Result (Data × View) PayloadError) (w v : View) (len kind : ℕ) (rest : List ℕ) → len < limit_of (size_of width) → kind < 2 ^ 32
-    → Took w (number (size_of width) len ++ (number S32 kind ++ rest)) v
-    → (place : ℕ) × (u : View) × Took u rest v × (union_at width known w ≡ cond (eqb kind 0) (cond (eqb len 0) (Ok (nothing, u)) (Err (LengthMismatch w.place))) (known kind len place u))
+union_head : (width type : Width) (known : ℕ → ℕ → ℕ → View → Result (Data × View) PayloadError) (w v : View) (len kind : ℕ) (rest : List ℕ) → len < limit_of (size_of width) → kind < limit_of (size_of type)
+    → Took w (number (size_of width) len ++ (number (size_of type) kind ++ rest)) v
+    → (place : ℕ) × (u : View) × Took u rest v × (union_at width type known w ≡ cond (eqb kind 0) (cond (eqb len 0) (Ok (nothing, u)) (Err (LengthMismatch w.place))) (known kind len place u))
 unfolding union_at
-union_head width known w v len kind rest lb kb p =
-    let a = took_split {w = w} {v = v} (number (size_of width) len) (number S32 kind ++ rest) p in
+union_head width type known w v len kind rest lb kb p =
+    let a = took_split {w = w} {v = v} (number (size_of width) len) (number (size_of type) kind ++ rest) p in
     let m = skip (length (number (size_of width) len)) w in
-    let b = took_split {w = m} {v = v} (number S32 kind) rest a.1 in
-    let u = skip (length (number S32 kind)) m in
-    (m.place, u, b.1, rw (number_again (size_of width) w m len a.0 lb, number_again S32 m u kind b.0 kb) refl)
+    let b = took_split {w = m} {v = v} (number (size_of type) kind) rest a.1 in
+    let u = skip (length (number (size_of type) kind)) m in
+    (m.place, u, b.1, rw (number_again (size_of width) w m len a.0 lb, number_again (size_of type) m u kind b.0 kb) refl)
 
 required_again : (ms : Members) (place : ℕ) (ss : Slots) → has_required ms ss ≡ true → required_at ms place ss ≡ Ok ss
 unfolding required_at
@@ -150,10 +159,13 @@ mutual
   unfolding data_by members_at variant_at ReadsBy ReadsMembers ReadsVariant
 
   pub data_again : (width : Width) (f : Form) (w v : View) (d : Data) (text : List ℕ) → IsForm f → ReadsBy width f d text → Took w text v → data_by width f w ≡ Ok (d, v)
+  data_again width (named n f) w v d text is h p = data_again width f w v d text is h p
+  data_again width (enumerated f labels) w v d text is h p = data_again width f w v d text is h p
   data_again width bool w v (truth b) text is (n, below, e, same) p = rw (number_again S8 w v n (rw e at p) below, same) refl
-  data_again width (unsigned size) w v (uint n) text is h p = rw (number_again size w v n (rw h.1 at p) h.0) refl
-  data_again width (signed size) w v (int z) text is h p =
-      rw (number_again size w v (cast_unsigned (width_of size) z) (rw h.1 at p) (signed_below size z h.0), to_z-of_z (width_of size) z h.0) refl
+  data_again width (unsigned order size) w v (uint n) text is h p = rw (ordered_again order size w v n (rw h.1 at p) h.0) refl
+  data_again width (padded encoding n) w v (phrase s) text is h p = rw (front_again n w v text p h.0, padded_again encoding w.place text s h.1) refl
+  data_again width (signed order size) w v (int z) text is h p =
+      rw (ordered_again order size w v (cast_unsigned (width_of size) z) (rw h.1 at p) (signed_below size z h.0), to_z-of_z (width_of size) z h.0) refl
   data_again width (string encoding own) w v (phrase s) text is (body, fits, e, spells) p =
       rw (body_again width w v body (rw e at p) fits, text_again encoding w.place body s spells) refl
   data_again width (array own max element) w v (list ds) text is (few, (body, fits, e, each)) p =
@@ -161,7 +173,14 @@ mutual
       let complete : IsComplete one (ReadsBy (own_width element) element) =
       record { gives = λ w v d text. data_again (own_width element) element w v d text is; some = λ d text. reads_some (own_width element) element d text is } in
       rw (body_again width w v body (rw e at p) fits, items_again one (ReadsBy (own_width element) element) complete max (body_view width w body) ds each few) refl
-  data_again width (fixed n element) w v (list ds) text is h p =
+  data_again width (fixed (Some own) n element) w v (list ds) text is (full, (body, fits, e, (front, more, parts, each))) p =
+      let one = data_by (own_width element) element in
+      let complete : IsComplete one (ReadsBy (own_width element) element) =
+      record { gives = λ w v d text. data_again (own_width element) element w v d text is.1; some = λ d text. reads_some (own_width element) element d text is.1 } in
+      let b = body_view width w body in
+      let t = front_of_all b front more parts in
+      rw (body_again width w v body (rw e at p) fits, fixed_again one (ReadsBy (own_width element) element) complete n b (skip (length front) b) ds front full each t.0) refl
+  data_again width (fixed None n element) w v (list ds) text is h p =
       let one = data_by (own_width element) element in
       let complete : IsComplete one (ReadsBy (own_width element) element) =
       record { gives = λ w v d text. data_again (own_width element) element w v d text is.1; some = λ d text. reads_some (own_width element) element d text is.1 } in
@@ -171,12 +190,12 @@ mutual
       let b = body_view width w body in
       let t = front_of_all b front more parts in
       rw (body_again width w v body (rw e at p) fits, members_again fs b (skip (length front) b) ds front is.1 h t.0) refl
-  data_again width (union vs) w v nothing text is h p =
-      let (place, u, t, e) = union_head width (λ kind len place u. variant_at vs kind len place w u) w v 0 0 [] (some_below width) (omega arith) (rw h at p) in
+  data_again width (union own type vs) w v nothing text is h p =
+      let (place, u, t, e) = union_head width type (λ kind len place u. variant_at vs kind len place w u) w v 0 0 [] (some_below width) (some_below type) (rw h at p) in
       let same : v ≡ u = none_taken u v [] refl t in
       e ∙ ap (λ (x : View). let y : Result (Data × View) PayloadError = Ok (nothing, x) in y) (sym same)
-  data_again width (union vs) w v (chosen kind d) text is (some, below, (body, short, same, begins)) p =
-      let (place, u, t, e) = union_head width (λ kind len place u. variant_at vs kind len place w u) w v (length body) kind body short below (rw same at p) in
+  data_again width (union own type vs) w v (chosen kind d) text is (some, below, (body, short, same, begins)) p =
+      let (place, u, t, e) = union_head width type (λ kind len place u. variant_at vs kind len place w u) w v (length body) kind body short below (rw same at p) in
       let known : eqb kind 0 ≡ false = ne_eqb kind 0 (λ zero. omega arith) in
       rw (e, known) (variant_again vs kind place w u v d body is begins t)
   data_again width (tagged own ms) w v (slotted ss) text is ((body, fits, e, (items, all, reads, skips)), required) p =

@@ -6,7 +6,7 @@ use Rattle.someip_payload_values.specs.declared.error.PayloadError.TheVariants.{
 use Rattle.someip_payload_values.specs.declared.shape.Width.{Width}
 use Rattle.someip_payload_values.specs.declared.tag.WireType.{WireType}
 use Rattle.someip_payload_values.specs.declared.tag.WireType.TheVariants.{Basic, OwnLength, Length}
-use Rattle.someip_payload_values.specs.Data.{Form, bool, unsigned, signed, string, array, fixed, «struct», union, tagged, Forms, no_forms, form_then, Variants, no_variants, variant, Members, member_then, Slots, present, absent}
+use Rattle.someip_payload_values.specs.Data.{Form, bool, unsigned, signed, string, padded, array, fixed, «struct», union, tagged, named, enumerated, Forms, no_forms, form_then, Variants, no_variants, variant, Members, member_then, Slots, present, absent}
 use Rattle.someip_payload_codec.specs.View.{View}
 use Rattle.someip_payload_values.specs.Steps.{Gives}
 use Rattle.someip_payload_values.specs.Check.{checked}
@@ -44,23 +44,30 @@ mutual
   unfolding FaultBy FaultInMembers FaultInVariant FaultBehindTag
 
   fault_kind : (width : Width) (f : Form) (e : PayloadError) (w : View) → FaultBy width f e w → IsReadingFault e
+  fault_kind width (named n f) e w h = fault_kind width f e w h
+  fault_kind width (enumerated f labels) e w h = fault_kind width f e w h
+  fault_kind width (padded encoding n) e w (inl h) = short_kind w e h.1
+  fault_kind width (padded encoding n) e w (inr (front, rest, parts, len, inl (open_end, same))) = subst IsReadingFault (sym same) tt
+  fault_kind width (padded encoding n) e w (inr (front, rest, parts, len, inr (ended, bad, same))) = subst IsReadingFault (sym same) tt
   fault_kind width bool e w h = short_kind w e h.1
-  fault_kind width (unsigned size) e w h = short_kind w e h.1
-  fault_kind width (signed size) e w h = short_kind w e h.1
+  fault_kind width (unsigned order size) e w h = short_kind w e h.1
+  fault_kind width (signed order size) e w h = short_kind w e h.1
   fault_kind width (string encoding own) e w (inl (none, same)) = short_kind w e same
   fault_kind width (string encoding own) e w (inr (body, has, inl (open_end, same))) = subst IsReadingFault (sym same) tt
   fault_kind width (string encoding own) e w (inr (body, has, inr (ended, bad, same))) = subst IsReadingFault (sym same) tt
   fault_kind width (array own max element) e w (inl (none, same)) = short_kind w e same
   fault_kind width (array own max element) e w (inr (body, has, (ds, text, rest, parts, each, some, inl (full, same)))) = subst IsReadingFault (sym same) tt
   fault_kind width (array own max element) e w (inr (body, has, (ds, text, rest, parts, each, some, inr (few, in_it)))) = fault_kind (own_width element) element e _ in_it
-  fault_kind width (fixed n element) e w (ds, text, rest, parts, each, few, in_it) = fault_kind (own_width element) element e _ in_it
+  fault_kind width (fixed (Some own) n element) e w (inl (none, same)) = short_kind w e same
+  fault_kind width (fixed (Some own) n element) e w (inr (body, has, (ds, text, rest, parts, each, few, in_it))) = fault_kind (own_width element) element e _ in_it
+  fault_kind width (fixed None n element) e w (ds, text, rest, parts, each, few, in_it) = fault_kind (own_width element) element e _ in_it
   fault_kind width («struct» None fs) e w h = members_kind fs e w h
   fault_kind width («struct» (Some own) fs) e w (inl (none, same)) = short_kind w e same
   fault_kind width («struct» (Some own) fs) e w (inr (body, has, in_it)) = members_kind fs e _ in_it
-  fault_kind width (union vs) e w (inl h) = short_kind w e h.1
-  fault_kind width (union vs) e w (inr (inl (long, h))) = short_kind (skip (field_len width) w) e h.1
-  fault_kind width (union vs) e w (inr (inr (len, kind, v, head, inl (zero, some, same)))) = subst IsReadingFault (sym same) tt
-  fault_kind width (union vs) e w (inr (inr (len, kind, v, head, inr (some, in_it)))) = variant_kind vs (w.place + field_len width) e kind len w v in_it
+  fault_kind width (union own type vs) e w (inl h) = short_kind w e h.1
+  fault_kind width (union own type vs) e w (inr (inl (long, h))) = short_kind (skip (field_len width) w) e h.1
+  fault_kind width (union own type vs) e w (inr (inr (len, kind, v, head, inl (zero, some, same)))) = subst IsReadingFault (sym same) tt
+  fault_kind width (union own type vs) e w (inr (inr (len, kind, v, head, inr (some, in_it)))) = variant_kind vs (w.place + field_len width) e kind len w v in_it
   fault_kind width (tagged own ms) e w (inl (none, same)) = short_kind w e same
   fault_kind width (tagged own ms) e w (inr (body, has, (items, ss, rest, parts, reads, others, inl (empty, missing, same)))) = subst IsReadingFault (sym same) tt
   fault_kind width (tagged own ms) e w (inr (body, has, (items, ss, rest, parts, reads, others, inr (some, inl h)))) = short_kind (skip (length (items_bytes items)) (body_view width w body)) e h.1

@@ -8,7 +8,9 @@ use Rattle.std.proofs.lemmas.List.{length-append, length-take, take-append-drop,
 use Rattle.someip_payload_values.specs.declared.error.PayloadError.{PayloadError}
 use Rattle.someip_payload_values.specs.declared.error.PayloadError.TheVariants.{TooMany, DuplicateMember, WrongWireType, MissingMember}
 use Rattle.someip_payload_values.specs.declared.number.Size.{Size}
-use Rattle.someip_payload_values.specs.declared.number.Size.TheVariants.{S8, S16, S32}
+use Rattle.someip_payload_values.specs.declared.number.Size.TheVariants.{S8, S16}
+use Rattle.someip_payload_values.specs.declared.number.Order.{Order}
+use Rattle.someip_payload_values.specs.declared.number.Order.TheVariants.{Big}
 use Rattle.someip_payload_values.specs.declared.shape.Width.{Width}
 use Rattle.someip_payload_values.specs.declared.shape.Width.TheVariants.{W32}
 use Rattle.someip_payload_values.specs.declared.tag.WireType.{WireType}
@@ -16,7 +18,7 @@ use Rattle.someip_payload_values.specs.declared.tag.WireType.TheVariants.{Basic,
 use Rattle.someip_payload_values.specs.declared.tag.Tag.{Tag}
 use Rattle.someip_payload_values.specs.declared.shape.Encoding.{Encoding}
 use Rattle.someip_payload_values.specs.declared.shape.Encoding.TheVariants.{Utf8, Utf16}
-use Rattle.someip_payload_values.specs.Data.{Form, bool, unsigned, signed, string, array, fixed, «struct», union, tagged, Forms, no_forms, form_then, Variants, no_variants, variant, Members, no_members, member_then, Data, phrase, list, tuple, slotted, Items, no_items, item, Slots, present, absent, count}
+use Rattle.someip_payload_values.specs.Data.{Form, bool, unsigned, signed, string, padded, array, fixed, «struct», union, tagged, named, enumerated, Forms, no_forms, form_then, Variants, no_variants, variant, Members, no_members, member_then, Data, phrase, list, tuple, slotted, Items, no_items, item, Slots, present, absent, count}
 use Rattle.someip_payload_codec.specs.View.{View}
 use Rattle.someip_payload_values.specs.Steps.{◌>>=◌}
 use Rattle.someip_payload_values.specs.Check.{checked}
@@ -25,21 +27,28 @@ use Rattle.someip_payload_values.specs.Tags.{tag_number, items_bytes, own_width,
 use Rattle.someip_payload_codec.specs.Grammar.{Each, Picks, Reads, has_required}
 use Rattle.someip_payload_values.specs.Texts.{utf8_mark, utf16_mark, unit_bytes}
 use Rattle.someip_payload_codec.specs.Texts.{SpellsText, IsTerminated}
-use Rattle.someip_payload_codec.specs.Reading.{short_at, skip, number_at, window_at, body_at, text_at, items_at, fixed_at, union_at, chosen_at, tag_at, skip_at, Filler, item_by, tagged_at, all_absent, required_at, member_at, data_by, members_at, variant_at, slots_at, item_at, decoded}
-use Rattle.someip_payload_codec.specs.Faults.{body_view, HasBody, FaultInBody, FaultInText, FaultInItems, FaultInNumber, FaultInUnion, FaultInSkipped, FaultInItem, FaultInTagged, FaultBy, FaultInMembers, FaultInVariant, FaultBehindTag, FaultIn, whole}
-use Rattle.someip_payload_codec.proofs.parts.Parts.{IsBytes, same_view, Took, took_bytes, wide, number_again, body_took, body_again}
+use Rattle.someip_payload_codec.specs.Reading.{short_at, skip, front_at, ordered_at, number_at, padded_at, window_at, body_at, text_at, items_at, fixed_at, union_at, chosen_at, tag_at, skip_at, Filler, item_by, tagged_at, all_absent, required_at, member_at, data_by, members_at, variant_at, slots_at, item_at, decoded}
+use Rattle.someip_payload_codec.specs.Faults.{body_view, HasBody, FaultInBody, FaultInText, FaultInItems, FaultInFixed, FaultInNumber, FaultInUnion, FaultInSkipped, FaultInItem, FaultInTagged, FaultBy, FaultInMembers, FaultInVariant, FaultBehindTag, FaultIn, whole}
+use Rattle.someip_payload_codec.proofs.parts.Parts.{IsBytes, same_view, Took, took_bytes, front_again, wide, number_again, body_took, body_again}
 use Rattle.someip_payload_codec.proofs.parts.Forms.{IsForm, AreForms, AreVariants, AreMembers}
 use Rattle.someip_payload_codec.proofs.texts.Utf16Texts.{zero_bytes}
 use Rattle.someip_payload_codec.proofs.texts.Utf16Units.{bytes_even}
 use Rattle.someip_payload_codec.proofs.texts.TextLemmas.{text_took, text_failed}
+use Rattle.someip_payload_codec.proofs.texts.PaddedTexts.{padded_bad}
 use Rattle.someip_payload_codec.proofs.tagged.TaggedAgain.{tag_again, tagged_again, tagged_end}
 use Rattle.someip_payload_codec.proofs.whole.Complete.{IsComplete, front_of_all, data_again, each_again, reads_some}
 use Rattle.someip_payload_codec.proofs.parts.PartFaults.{body_failed}
 use Rattle.someip_payload_codec.proofs.whole.Whole.{checked_is}
 
+front_bad : (n : ℕ) (w : View) (e : PayloadError) → FaultInNumber n w e → front_at n w ≡ Err e
+front_bad n w e (short, same) = rw (lt-ltb (length w.bytes) n short, same) refl
+
+ordered_bad : (order : Order) (size : Size) (w : View) (e : PayloadError) → FaultInNumber (byte_len (width_of size)) w e → ordered_at order size w ≡ Err e
+unfolding ordered_at
+ordered_bad order size w e (short, same) = rw (lt-ltb (length w.bytes) (byte_len (width_of size)) short, same) refl
+
 number_bad : (size : Size) (w : View) (e : PayloadError) → FaultInNumber (byte_len (width_of size)) w e → number_at size w ≡ Err e
-unfolding number_at
-number_bad size w e (short, same) = rw (lt-ltb (length w.bytes) (byte_len (width_of size)) short, same) refl
+number_bad = ordered_bad Big
 
 -- a body that is not there
 no_body_at : (width : Width) (w : View) (r : Result (View × View) PayloadError) → IsBytes w.bytes → ((body : List ℕ) → HasBody width w body → ⊥) → body_at width w ≡ r → r ≡ Err (short_at w)
@@ -159,28 +168,29 @@ chosen_bad one In e inside kind len w u fits (inr (long, in_it)) =
     rw (le-ltb (length u.bytes) len long, inside (record { is_body = true; place = u.place; bytes = take len u.bytes }) (took_bytes fits p).0 in_it) refl
 
 number_any : (size : Size) (w : View) → byte_len (width_of size) ≤ length w.bytes → (n : ℕ) × (number_at size w ≡ Ok (n, skip (byte_len (width_of size)) w))
-unfolding number_at
+unfolding ordered_at
 number_any size w long = (from_be_bytes (width_of size) (take (byte_len (width_of size)) w.bytes), rw (le-ltb (length w.bytes) (byte_len (width_of size)) long) refl)
 
-union_bad : (width : Width) (known : ℕ → ℕ → ℕ → View → Result (Data × View) PayloadError) (In : ℕ → ℕ → View → Type 0) (w : View) (e : PayloadError) → IsBytes w.bytes
-    → ((kind len : ℕ) (u : View) → IsBytes u.bytes → In kind len u → known kind len (w.place + field_len width) u ≡ Err e) → FaultInUnion width In w e → union_at width known w ≡ Err e
+union_bad : (width type : Width) (known : ℕ → ℕ → ℕ → View → Result (Data × View) PayloadError) (In : ℕ → ℕ → View → Type 0) (w : View) (e : PayloadError) → IsBytes w.bytes
+    → ((kind len : ℕ) (u : View) → IsBytes u.bytes → In kind len u → known kind len (w.place + field_len width) u ≡ Err e) → FaultInUnion width type In w e → union_at width type known w ≡ Err e
 unfolding union_at
-union_bad width known In w e fits inside (inl h) = rw (number_bad (size_of width) w e h) refl
-union_bad width known In w e fits inside (inr (inl (long, h))) =
+union_bad width type known In w e fits inside (inl h) = rw (number_bad (size_of width) w e h) refl
+union_bad width type known In w e fits inside (inr (inl (long, h))) =
     let (n, got) = number_any (size_of width) w long in
-    rw (got, number_bad S32 (skip (field_len width) w) e h) refl
-union_bad width known In w e fits inside (inr (inr (len, kind, v, (lb, kb, parts, at), which))) =
-    let l = front_of_all w (number (size_of width) len) (number S32 kind ++ v.bytes) parts in
+    rw (got, number_bad (size_of type) (skip (field_len width) w) e h) refl
+union_bad width type known In w e fits inside (inr (inr (len, kind, v, (lb, kb, parts, at), which))) =
+    let l = front_of_all w (number (size_of width) len) (number (size_of type) kind ++ v.bytes) parts in
     let size : length (number (size_of width) len) ≡ field_len width = (wide (size_of width)).len len in
     let m = skip (field_len width) w in
     let lt : Took w (number (size_of width) len) m = rw size at l.0 in
-    let after : m.bytes ≡ number S32 kind ++ v.bytes = rw size at l.1 in
-    let k = front_of_all m (number S32 kind) v.bytes after in
-    let u = skip 4 m in
-    let same : u ≡ v = same_view u v (ap (λ (x : View). x.is_body) (sym at)) (omega (arith, ap (λ (x : View). x.place) at)) k.1 in
+    let after : m.bytes ≡ number (size_of type) kind ++ v.bytes = rw size at l.1 in
+    let k = front_of_all m (number (size_of type) kind) v.bytes after in
+    let u = skip (length (number (size_of type) kind)) m in
+    let size_t : length (number (size_of type) kind) ≡ field_len type = (wide (size_of type)).len kind in
+    let same : u ≡ v = same_view u v (ap (λ (x : View). x.is_body) (sym at)) (omega (arith, size_t, ap (λ (x : View). x.place) at)) k.1 in
     let rest : IsBytes u.bytes = (took_bytes (took_bytes fits lt).1 k.0).1 in
     let first : number_at (size_of width) w ≡ Ok (len, m) = number_again (size_of width) w m len lt lb in
-    let second : number_at S32 m ≡ Ok (kind, u) = number_again S32 m u kind k.0 kb in
+    let second : number_at (size_of type) m ≡ Ok (kind, u) = number_again (size_of type) m u kind k.0 kb in
     elim which [
       | inl (nought, some, is) ↦ rw (first, second, eq-eqb kind 0 nought, ne_eqb len 0 (λ none. omega arith), is) refl
       | inr (some, in_it) ↦ rw (first, second, ne_eqb kind 0 (λ none. omega arith)) (inside kind len u rest (subst (In kind len) (sym same) in_it))
@@ -260,9 +270,15 @@ mutual
   unfolding data_by members_at variant_at FaultBy FaultInMembers FaultInVariant
 
   pub data_bad : (width : Width) (f : Form) (w : View) (e : PayloadError) → IsForm f → IsBytes w.bytes → FaultBy width f e w → data_by width f w ≡ Err e
+  data_bad width (named n f) w e is fits h = data_bad width f w e is fits h
+  data_bad width (enumerated f labels) w e is fits h = data_bad width f w e is fits h
+  data_bad width (padded encoding n) w e is fits (inl h) = rw (front_bad n w e h) refl
+  data_bad width (padded encoding n) w e is fits (inr (front, rest, parts, len, h)) =
+      let t = front_of_all w front rest parts in
+      rw (front_again n w (skip (length front) w) front t.0 len) (bind_bad (padded_at encoding w.place front) (λ s. Ok (phrase s, skip (length front) w)) e (padded_bad encoding w.place front e (took_bytes fits t.0).0 h))
   data_bad width bool w e is fits h = rw (number_bad S8 w e h) refl
-  data_bad width (unsigned size) w e is fits h = rw (number_bad size w e h) refl
-  data_bad width (signed size) w e is fits h = rw (number_bad size w e h) refl
+  data_bad width (unsigned order size) w e is fits h = rw (ordered_bad order size w e h) refl
+  data_bad width (signed order size) w e is fits h = rw (ordered_bad order size w e h) refl
   data_bad width (string encoding own) w e is fits h =
       body_bad width (FaultInText encoding w.place e) w e (λ body. text_at encoding w.place body.0.bytes >>= λ s. Ok (phrase s, body.1)) fits
       (λ b v bytes bad. bind_bad (text_at encoding w.place b.bytes) (λ s. Ok (phrase s, v)) e (text_bad encoding w.place b e (text_at encoding w.place b.bytes) bytes bad refl)) h
@@ -273,7 +289,14 @@ mutual
       (λ b v bytes (ds, text, rest, parts, each, some, which).
       bind_bad (items_at (data_by by element) max b) (λ items. Ok (list items, v)) e
       (items_bad (data_by by element) (Reads element) (FaultBy by element e) e complete (λ u us bad. data_bad by element u e is us bad) max b ds text rest bytes parts each some which)) h
-  data_bad width (fixed n element) w e is fits (ds, text, rest, parts, each, few, in_it) =
+  data_bad width (fixed (Some own) n element) w e is fits h =
+      let by = own_width element in
+      let complete : IsComplete (data_by by element) (Reads element) = record { gives = λ w v d text. data_again by element w v d text is.1; some = λ d text. reads_some by element d text is.1 } in
+      body_bad width (FaultInFixed (Reads element) (FaultBy by element e) n) w e (λ body. fixed_at (data_by by element) n body.0 >>= λ items. Ok (list items.0, body.1)) fits
+      (λ b v bytes (ds, text, rest, parts, each, few, in_it).
+      bind_bad (fixed_at (data_by by element) n b) (λ items. Ok (list items.0, v)) e
+      (fixed_bad (data_by by element) (Reads element) (FaultBy by element e) e complete (λ u us bad. data_bad by element u e is.1 us bad) n b ds text rest bytes parts each few in_it)) h
+  data_bad width (fixed None n element) w e is fits (ds, text, rest, parts, each, few, in_it) =
       let by = own_width element in
       let complete : IsComplete (data_by by element) (Reads element) = record { gives = λ w v d text. data_again by element w v d text is.1; some = λ d text. reads_some by element d text is.1 } in
       rw (fixed_bad (data_by by element) (Reads element) (FaultBy by element e) e complete (λ u us bad. data_bad by element u e is.1 us bad) n w ds text rest fits parts each few in_it) refl
@@ -281,8 +304,8 @@ mutual
   data_bad width («struct» (Some own) fs) w e is fits h =
       body_bad width (FaultInMembers fs e) w e (λ body. members_at fs body.0 >>= λ members. Ok (tuple members.0, body.1)) fits
       (λ b v bytes bad. bind_bad (members_at fs b) (λ members. Ok (tuple members.0, v)) e (members_bad fs b e is.1 bytes bad)) h
-  data_bad width (union vs) w e is fits h =
-      union_bad width (λ kind len place u. variant_at vs kind len place w u) (λ kind len v. FaultInVariant vs (w.place + field_len width) e kind len w v) w e fits
+  data_bad width (union own type vs) w e is fits h =
+      union_bad width type (λ kind len place u. variant_at vs kind len place w u) (λ kind len v. FaultInVariant vs (w.place + field_len width) e kind len w v) w e fits
       (λ kind len u us bad. variant_bad vs kind len (w.place + field_len width) w u e is us bad) h
   data_bad width (tagged own ms) w e is fits h =
       body_bad width (FaultInTagged ms (λ ss v. FaultInItem (λ t id u. FaultBehindTag ms ss t id v.place e u) v e) w.place e) w e

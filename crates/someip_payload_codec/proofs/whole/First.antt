@@ -3,26 +3,27 @@ use Rattle.std.proofs.Common.{◌≡◌, ◌⊎◌, inl, inr, ℕ, zero, suc, �
 use Rattle.std.proofs.lemmas.Bool.{ltb-true, eqb-true, eqb-false}
 use Rattle.std.proofs.lemmas.List.{length-append, take_at}
 use Rattle.someip_payload_values.specs.declared.error.PayloadError.TheVariants.{TooMany, UnknownVariant, LengthMismatch}
-use Rattle.someip_payload_values.specs.declared.number.Size.TheVariants.{S8, S32}
+use Rattle.someip_payload_values.specs.declared.number.Size.TheVariants.{S8}
 use Rattle.someip_payload_values.specs.declared.shape.Width.{Width}
 use Rattle.someip_payload_values.specs.declared.tag.Tag.{Tag}
-use Rattle.someip_payload_values.specs.Data.{Form, bool, unsigned, signed, string, array, fixed, «struct», union, tagged, Forms, no_forms, form_then, Variants, no_variants, variant, Members, no_members, member_then, Data, truth, uint, int, phrase, list, tuple, nothing, chosen, slotted, Items, no_items, item, Slots, no_slots, present, absent}
+use Rattle.someip_payload_values.specs.Data.{Form, bool, unsigned, signed, string, padded, array, fixed, «struct», union, tagged, named, enumerated, Forms, no_forms, form_then, Variants, no_variants, variant, Members, no_members, member_then, Data, truth, uint, int, phrase, list, tuple, nothing, chosen, slotted, Items, no_items, item, Slots, no_slots, present, absent}
 use Rattle.someip_payload_codec.specs.View.{View}
 use Rattle.someip_payload_values.specs.declared.error.PayloadError.{PayloadError}
 use Rattle.someip_payload_values.specs.Steps.{◌>>=◌}
 use Rattle.someip_payload_values.specs.Numbers.{size_of, field_len, number, is_odd}
 use Rattle.someip_payload_values.specs.Tags.{own_width}
 use Rattle.someip_payload_codec.specs.Grammar.{Reads}
-use Rattle.someip_payload_codec.specs.Reading.{short_at, skip, signed_of, number_at, window_at, text_at, items_at, fixed_at, union_at, chosen_at, tagged_at, item_at, all_absent, required_at, data_by, data_at, members_at, variant_at, slots_at}
+use Rattle.someip_payload_codec.specs.Reading.{short_at, skip, signed_of, front_at, ordered_at, number_at, padded_at, window_at, text_at, items_at, fixed_at, union_at, chosen_at, tagged_at, item_at, all_absent, required_at, data_by, data_at, members_at, variant_at, slots_at}
 use Rattle.someip_payload_codec.specs.Faults.{FaultInText, FaultInItems, FaultInFixed, FaultInNumber, HasHead, FaultInUnion, FaultBy, FaultIn, FaultInMembers, FaultInVariant, FaultInItem, FaultInTagged, FaultBehindTag}
 use Rattle.someip_payload_values.proofs.StepLemmas.{err_is, bind_err, only_first}
-use Rattle.someip_payload_codec.proofs.parts.Parts.{IsBytes, same_view, Takes, wide, took_bytes, took_then, number_took, window_took}
+use Rattle.someip_payload_codec.proofs.parts.Parts.{IsBytes, same_view, Takes, wide, front_took, took_bytes, took_then, number_took, window_took}
 use Rattle.someip_payload_codec.proofs.parts.Forms.{IsForm, AreForms, AreVariants, AreMembers}
-use Rattle.someip_payload_codec.proofs.parts.PartFaults.{guard_err, chosen_err, picks_failed, number_failed, window_failed, in_body, left_is, left_after}
+use Rattle.someip_payload_codec.proofs.parts.PartFaults.{guard_err, chosen_err, picks_failed, front_failed, ordered_failed, number_failed, window_failed, in_body, left_is, left_after}
 use Rattle.someip_payload_codec.proofs.whole.Sound.{IsSound, data_took, slots_took}
 use Rattle.someip_payload_codec.proofs.tagged.TaggedSound.{item_took}
 use Rattle.someip_payload_codec.proofs.tagged.TaggedFirst.{skipped_failed, present_failed, absent_failed, item_failed, tagged_failed, both_first}
 use Rattle.someip_payload_codec.proofs.texts.TextLemmas.{text_failed}
+use Rattle.someip_payload_codec.proofs.texts.PaddedTexts.{padded_failed}
 
 -- the same with one element before
 items_later : (one : View → Result (Data × View) PayloadError) (P : Data → List ℕ → Type 0) (In : View → Type 0) (max : ℕ) (w : View) (d : Data) (v : View) (e : PayloadError)
@@ -100,43 +101,43 @@ chosen_failed one In e inside kind len w u fits h =
           inr (omega (arith, t.len, ap length t.took.bytes ∙ length-append x.0.bytes x.1.bytes), subst In body (inside x.0 t.bytes (only_first (one x.0) g e then)))
     ]
 
-union_which : (width : Width) (known : ℕ → ℕ → ℕ → View → Result (Data × View) PayloadError) (In : ℕ → ℕ → View → Type 0) (kind len place : ℕ) (w v : View) (e : PayloadError) → HasHead width len kind w v
+union_which : (width type : Width) (known : ℕ → ℕ → ℕ → View → Result (Data × View) PayloadError) (In : ℕ → ℕ → View → Type 0) (kind len place : ℕ) (w v : View) (e : PayloadError) → HasHead width type len kind w v
     → (known kind len place v ≡ Err e → In kind len v) → (t z : Bool) → eqb kind 0 ≡ t → eqb len 0 ≡ z
-    → cond t (cond z (Ok (nothing, v)) (Err (LengthMismatch w.place))) (known kind len place v) ≡ Err e → FaultInUnion width In w e
-union_which width known In kind len place w v e head inside true true k l h = absurd cc
-union_which width known In kind len place w v e head inside true false k l h =
+    → cond t (cond z (Ok (nothing, v)) (Err (LengthMismatch w.place))) (known kind len place v) ≡ Err e → FaultInUnion width type In w e
+union_which width type known In kind len place w v e head inside true true k l h = absurd cc
+union_which width type known In kind len place w v e head inside true false k l h =
     let some : len ≡ 0 → ⊥ = eqb-false _ _ l in
     let same : LengthMismatch w.place ≡ e = err_is {A = Data × View} (LengthMismatch w.place) e h in
     inr (inr (len, kind, v, head, inl (eqb-true _ _ k, omega arith, sym same)))
-union_which width known In kind len place w v e head inside false z k l h =
+union_which width type known In kind len place w v e head inside false z k l h =
     let some : kind ≡ 0 → ⊥ = eqb-false _ _ k in
     inr (inr (len, kind, v, head, inr (omega arith, inside h)))
 
-union_failed : (width : Width) (known : ℕ → ℕ → ℕ → View → Result (Data × View) PayloadError) (In : ℕ → ℕ → View → Type 0) (w : View) (e : PayloadError) → IsBytes w.bytes
+union_failed : (width type : Width) (known : ℕ → ℕ → ℕ → View → Result (Data × View) PayloadError) (In : ℕ → ℕ → View → Type 0) (w : View) (e : PayloadError) → IsBytes w.bytes
     → ((kind len place : ℕ) (u : View) → IsBytes u.bytes → place ≡ w.place + field_len width → known kind len place u ≡ Err e → In kind len u)
-    → union_at width known w ≡ Err e → FaultInUnion width In w e
+    → union_at width type known w ≡ Err e → FaultInUnion width type In w e
 unfolding union_at
-union_failed width known In w e fits inside h =
+union_failed width type known In w e fits inside h =
     let second = λ (len : ℕ) (m : View) (kind : ℕ × View). cond (eqb kind.0 0) (cond (eqb len 0) (Ok (nothing, kind.1)) (Err (LengthMismatch w.place))) (known kind.0 len m.place kind.1) in
-    elim (bind_err (number_at (size_of width) w) (λ len. number_at S32 len.1 >>= second len.0 len.1) e h) [
+    elim (bind_err (number_at (size_of width) w) (λ len. number_at (size_of type) len.1 >>= second len.0 len.1) e h) [
       | inl first ↦ inl (number_failed (size_of width) w e first)
       | inr (len, was, then) ↦
           let l = number_took (size_of width) w len.1 len.0 fits was in
           let after = (took_bytes fits l.0).1 in
           let wide_len : length (number (size_of width) len.0) ≡ field_len width = (wide (size_of width)).len len.0 in
           let here : len.1 ≡ skip (field_len width) w = subst (λ (n : ℕ). len.1 ≡ skip n w) wide_len (left_is l.0) in
-          elim (bind_err (number_at S32 len.1) (second len.0 len.1) e then) [
+          elim (bind_err (number_at (size_of type) len.1) (second len.0 len.1) e then) [
             | inl bad ↦
                 let long : field_len width ≤ length w.bytes = omega (arith, wide_len, ap length l.0.bytes ∙ length-append (number (size_of width) len.0) len.1.bytes) in
-                inr (inl (long, subst (λ (x : View). FaultInNumber 4 x e) here (number_failed S32 len.1 e bad)))
+                inr (inl (long, subst (λ (x : View). FaultInNumber (field_len type) x e) here (number_failed (size_of type) len.1 e bad)))
             | inr (kind, was2, then2) ↦
-                let k = number_took S32 len.1 kind.1 kind.0 after was2 in
+                let k = number_took (size_of type) len.1 kind.1 kind.0 after was2 in
                 let rest = (took_bytes after k.0).1 in
                 let both = took_then l.0 k.0 in
-                let parts : w.bytes ≡ number (size_of width) len.0 ++ (number S32 kind.0 ++ kind.1.bytes) = l.0.bytes ∙ ap (λ (x : List ℕ). number (size_of width) len.0 ++ x) k.0.bytes in
-                let both_len : length (number (size_of width) len.0 ++ number S32 kind.0) ≡ field_len width + 4 = omega (arith, wide_len, length-append (number (size_of width) len.0) (number S32 kind.0), (wide S32).len kind.0) in
-                let head : HasHead width len.0 kind.0 w kind.1 = (l.1, k.1, parts, subst (λ (n : ℕ). kind.1 ≡ skip n w) both_len (left_is both)) in
-                union_which width known In kind.0 len.0 len.1.place w kind.1 e head (inside kind.0 len.0 len.1.place kind.1 rest (subst (λ (n : ℕ). len.1.place ≡ w.place + n) wide_len l.0.place)) (eqb kind.0 0) (eqb len.0 0) refl refl then2
+                let parts : w.bytes ≡ number (size_of width) len.0 ++ (number (size_of type) kind.0 ++ kind.1.bytes) = l.0.bytes ∙ ap (λ (x : List ℕ). number (size_of width) len.0 ++ x) k.0.bytes in
+                let both_len : length (number (size_of width) len.0 ++ number (size_of type) kind.0) ≡ field_len width + field_len type = omega (arith, wide_len, length-append (number (size_of width) len.0) (number (size_of type) kind.0), (wide (size_of type)).len kind.0) in
+                let head : HasHead width type len.0 kind.0 w kind.1 = (l.1, k.1, parts, subst (λ (n : ℕ). kind.1 ≡ skip n w) both_len (left_is both)) in
+                union_which width type known In kind.0 len.0 len.1.place w kind.1 e head (inside kind.0 len.0 len.1.place kind.1 rest (subst (λ (n : ℕ). len.1.place ≡ w.place + n) wide_len l.0.place)) (eqb kind.0 0) (eqb len.0 0) refl refl then2
           ]
     ]
 
@@ -146,10 +147,20 @@ mutual
   pub data_failed : (width : Width) (f : Form) (w : View) (e : PayloadError) → IsForm f → IsBytes w.bytes → data_by width f w ≡ Err e → FaultBy width f e w
   data_failed width bool w e form fits h =
       elim (bind_err (number_at S8 w) (λ n. Ok (truth (is_odd n.0), n.1)) e h) [ inl first ↦ number_failed S8 w e first | inr (x, was, then) ↦ absurd cc ]
-  data_failed width (unsigned size) w e form fits h =
-      elim (bind_err (number_at size w) (λ n. Ok (uint n.0, n.1)) e h) [ inl first ↦ number_failed size w e first | inr (x, was, then) ↦ absurd cc ]
-  data_failed width (signed size) w e form fits h =
-      elim (bind_err (number_at size w) (λ n. Ok (int (signed_of size n.0), n.1)) e h) [ inl first ↦ number_failed size w e first | inr (x, was, then) ↦ absurd cc ]
+  data_failed width (named n f) w e form fits h = data_failed width f w e form fits h
+  data_failed width (enumerated f labels) w e form fits h = data_failed width f w e form fits h
+  data_failed width (padded encoding n) w e form fits h =
+      elim (bind_err (front_at n w) (λ front. padded_at encoding w.place front.0 >>= λ s. Ok (phrase s, front.1)) e h) [
+        | inl first ↦ inl (front_failed n w e first)
+        | inr (x, was, then) ↦
+            let t = front_took n w x.1 x.0 was in
+            let g : List ℕ → Data × View = λ s. (phrase s, x.1) in
+            inr (x.0, x.1.bytes, t.0.bytes, t.1, padded_failed encoding w.place x.0 e (took_bytes fits t.0).0 (only_first (padded_at encoding w.place x.0) g e then))
+      ]
+  data_failed width (unsigned order size) w e form fits h =
+      elim (bind_err (ordered_at order size w) (λ n. Ok (uint n.0, n.1)) e h) [ inl first ↦ ordered_failed order size w e first | inr (x, was, then) ↦ absurd cc ]
+  data_failed width (signed order size) w e form fits h =
+      elim (bind_err (ordered_at order size w) (λ n. Ok (int (signed_of size n.0), n.1)) e h) [ inl first ↦ ordered_failed order size w e first | inr (x, was, then) ↦ absurd cc ]
   data_failed width (string encoding own) w e form fits h =
       in_body width (FaultInText encoding w.place e) w e (λ body. text_at encoding w.place body.0.bytes >>= λ s. Ok (phrase s, body.1)) fits
       (λ b v bytes then. let g : List ℕ → Data × View = λ s. (phrase s, v) in
@@ -158,7 +169,11 @@ mutual
       in_body width (FaultInItems (Reads element) (FaultIn element e) max e) w e (λ body. items_at (data_at element) max body.0 >>= λ items. Ok (list items, body.1)) fits
       (λ b v bytes then. let g : Items → Data × View = λ items. (list items, v) in
       items_failed (data_at element) (Reads element) (FaultIn element e) e (record { takes = λ x y d. data_took (own_width element) element x y d form }) (λ u us bad. data_failed (own_width element) element u e form us bad) max b bytes (only_first (items_at (data_at element) max b) g e then)) h
-  data_failed width (fixed n element) w e form fits h =
+  data_failed width (fixed (Some own) n element) w e form fits h =
+      in_body width (FaultInFixed (Reads element) (FaultIn element e) n) w e (λ body. fixed_at (data_at element) n body.0 >>= λ items. Ok (list items.0, body.1)) fits
+      (λ b v bytes then. let g : Items × View → Data × View = λ items. (list items.0, v) in
+      fixed_failed (data_at element) (Reads element) (FaultIn element e) e (record { takes = λ x y d. data_took (own_width element) element x y d form.1 }) (λ u us bad. data_failed (own_width element) element u e form.1 us bad) n b bytes (only_first (fixed_at (data_at element) n b) g e then)) h
+  data_failed width (fixed None n element) w e form fits h =
       elim (bind_err (fixed_at (data_at element) n w) (λ items. Ok (list items.0, items.1)) e h) [
         | inl first ↦ fixed_failed (data_at element) (Reads element) (FaultIn element e) e (record { takes = λ x y d. data_took (own_width element) element x y d form.1 }) (λ u us bad. data_failed (own_width element) element u e form.1 us bad) n w fits first
         | inr (x, was, then) ↦ absurd cc
@@ -169,8 +184,8 @@ mutual
       in_body width (FaultInMembers fs e) w e (λ body. members_at fs body.0 >>= λ members. Ok (tuple members.0, body.1)) fits
       (λ b v bytes then. let g : Items × View → Data × View = λ members. (tuple members.0, v) in
       members_failed fs b e form.1 bytes (only_first (members_at fs b) g e then)) h
-  data_failed width (union vs) w e form fits h =
-      union_failed width (λ kind len place u. variant_at vs kind len place w u) (λ kind len v. FaultInVariant vs (w.place + field_len width) e kind len w v) w e fits
+  data_failed width (union own type vs) w e form fits h =
+      union_failed width type (λ kind len place u. variant_at vs kind len place w u) (λ kind len v. FaultInVariant vs (w.place + field_len width) e kind len w v) w e fits
       (λ kind len place u us at bad. subst (λ (n : ℕ). FaultInVariant vs n e kind len w u) at (variant_failed vs kind len place w u e form us bad)) h
   data_failed width (tagged own ms) w e form fits h =
       let takes = λ (ss ss' : Slots) (tag : Tag) (place : ℕ) (u x : View) (bytes : IsBytes u.bytes) (was : slots_at ms ss tag place u ≡ Ok (ss', x)). slots_took ms ss ss' tag place u x form bytes was in

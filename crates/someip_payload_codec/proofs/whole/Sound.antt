@@ -1,5 +1,5 @@
 -- What is read is spelled so.
-use Rattle.std.proofs.Common.{◌≡◌, ◌⊎◌, inl, inr, ℕ, zero, suc, ◌+◌, ◌^◌, ◌<◌, ◌≤◌, Bool, true, false, cond, ltb, eqb, List, [], ◌++◌, length, Result, Ok, Err, Some, None, refl, sym, ap, subst, append_assoc, arith}
+use Rattle.std.proofs.Common.{◌≡◌, ◌⊎◌, inl, inr, ℕ, zero, suc, ◌+◌, ◌^◌, ◌<◌, ◌≤◌, Bool, true, false, cond, ltb, eqb, List, [], ◌++◌, length, Result, Ok, Err, Some, None, refl, sym, ap, subst, append_assoc, append-nil, arith}
 use Rattle.std.specs.Int.{Width as IntWidth, w8, w16, w32, w64, cast_signed, cast_unsigned}
 use mir.Val.{bits, hbits}
 use Rattle.std.specs.Int.RustNames.{FitsSigned}
@@ -12,17 +12,18 @@ use Rattle.someip_payload_values.specs.declared.number.Size.{Size}
 use Rattle.someip_payload_values.specs.declared.number.Size.TheVariants.{S8, S16, S32, S64}
 use Rattle.someip_payload_values.specs.declared.shape.Width.{Width}
 use Rattle.someip_payload_values.specs.declared.tag.Tag.{Tag}
-use Rattle.someip_payload_values.specs.Data.{Form, bool, unsigned, signed, string, array, fixed, «struct», union, tagged, Forms, no_forms, form_then, Variants, no_variants, variant, Members, no_members, member_then, Data, truth, uint, int, phrase, list, tuple, nothing, chosen, slotted, Items, no_items, item, Slots, no_slots, present, absent, count}
+use Rattle.someip_payload_values.specs.Data.{Form, bool, unsigned, signed, string, padded, array, fixed, «struct», union, tagged, named, enumerated, Forms, no_forms, form_then, Variants, no_variants, variant, Members, no_members, member_then, Data, truth, uint, int, phrase, list, tuple, nothing, chosen, slotted, Items, no_items, item, Slots, no_slots, present, absent, count}
 use Rattle.someip_payload_codec.specs.View.{View}
-use Rattle.someip_payload_values.specs.Numbers.{width_of, limit_of, size_of, number, framed, typed, is_odd, Begins}
+use Rattle.someip_payload_values.specs.Numbers.{width_of, limit_of, size_of, number, number_in, framed, typed, is_odd, Begins}
 use Rattle.someip_payload_values.specs.Tags.{own_width}
 use Rattle.someip_payload_codec.specs.Grammar.{Picks, Each, Reads, ReadsBy, ReadsMembers, ReadsVariant, ReadsItems}
 use Rattle.someip_payload_values.specs.Steps.{◌>>=◌}
-use Rattle.someip_payload_codec.specs.Reading.{signed_of, number_at, window_at, body_at, text_at, items_at, fixed_at, union_at, chosen_at, Filler, item_by, tagged_at, all_absent, required_at, data_by, data_at, members_at, variant_at, slots_at}
-use Rattle.someip_payload_codec.proofs.parts.Parts.{IsBytes, bind_ok, ok_is, Took, Takes, took_none, took_then, took_bytes, number_took, window_took, body_took}
+use Rattle.someip_payload_codec.specs.Reading.{signed_of, front_at, ordered_at, number_at, padded_at, window_at, body_at, text_at, items_at, fixed_at, union_at, chosen_at, Filler, item_by, tagged_at, all_absent, required_at, data_by, data_at, members_at, variant_at, slots_at}
+use Rattle.someip_payload_codec.proofs.parts.Parts.{IsBytes, bind_ok, ok_is, Took, Takes, took_none, took_then, took_bytes, front_took, ordered_took, number_took, window_took, body_took}
 use Rattle.someip_payload_codec.proofs.parts.Forms.{IsForm, AreForms, AreVariants, AreMembers}
 use Rattle.someip_payload_codec.proofs.tagged.TaggedSound.{none_yet, reads_more, TakesSlot, skipped_took, present_took, absent_or_value, item_took, tagged_took, required_is}
 use Rattle.someip_payload_codec.proofs.texts.TextLemmas.{text_took}
+use Rattle.someip_payload_codec.proofs.texts.PaddedTexts.{padded_took}
 
 -- a reader that takes what P says
 pub record IsSound (one : View → Result (Data × View) PayloadError) (P : Data → List ℕ → Type 0) : Type 0 where
@@ -107,39 +108,39 @@ picks_took true P Q r s kind len u v d first next h = first h
 picks_took false P Q r s kind len u v d first next h = next h
 
 -- what a union took
-record TookUnion (width : Width) (P : ℕ → Data → List ℕ → Type 0) (w v : View) (d : Data) : Type 0 where
+record TookUnion (width type : Width) (P : ℕ → Data → List ℕ → Type 0) (w v : View) (d : Data) : Type 0 where
   pub text : List ℕ
   pub took : Took w text v
-  pub holds : ((d ≡ nothing) × (text ≡ typed width 0 []))
-      ⊎ ((kind : ℕ) × (e : Data) × (d ≡ chosen kind e) × (0 < kind) × (kind < 2 ^ 32) × (body : List ℕ) × (length body < limit_of (size_of width)) × (text ≡ typed width kind body) × Begins (P kind e) body)
+  pub holds : ((d ≡ nothing) × (text ≡ typed width type 0 []))
+      ⊎ ((kind : ℕ) × (e : Data) × (d ≡ chosen kind e) × (0 < kind) × (kind < limit_of (size_of type)) × (body : List ℕ) × (length body < limit_of (size_of width)) × (text ≡ typed width type kind body) × Begins (P kind e) body)
 
-union_cases : (width : Width) (known : ℕ → ℕ → ℕ → View → Result (Data × View) PayloadError) (P : ℕ → Data → List ℕ → Type 0) (kind len place : ℕ) (w u v : View) (d : Data) (f : PayloadError)
-    → IsBytes u.bytes → len < limit_of (size_of width) → kind < 2 ^ 32 → Took w (number (size_of width) len ++ number S32 kind) u
+union_cases : (width type : Width) (known : ℕ → ℕ → ℕ → View → Result (Data × View) PayloadError) (P : ℕ → Data → List ℕ → Type 0) (kind len place : ℕ) (w u v : View) (d : Data) (f : PayloadError)
+    → IsBytes u.bytes → len < limit_of (size_of width) → kind < limit_of (size_of type) → Took w (number (size_of width) len ++ number (size_of type) kind) u
     → (known kind len place u ≡ Ok (d, v) → TakesVariant kind len (P kind) u v d)
-    → (t z : Bool) → eqb kind 0 ≡ t → eqb len 0 ≡ z → cond t (cond z (Ok (nothing, u)) (Err f)) (known kind len place u) ≡ Ok (d, v) → TookUnion width P w v d
-union_cases width known P kind len place w u v d f fits lb kb head takes true true k l h =
-    let none : number (size_of width) len ++ number S32 kind ≡ typed width 0 [] = rw (eqb-true _ _ k, eqb-true _ _ l) refl in
-    subst (λ (x : Data × View). TookUnion width P w x.1 x.0) (ok_is (nothing, u) (d, v) h) (record { text = number (size_of width) len ++ number S32 kind; took = head; holds = inl (refl, none) })
-union_cases width known P kind len place w u v d f fits lb kb head takes true false k l h = absurd cc
-union_cases width known P kind len place w u v d f fits lb kb head takes false z k l h =
+    → (t z : Bool) → eqb kind 0 ≡ t → eqb len 0 ≡ z → cond t (cond z (Ok (nothing, u)) (Err f)) (known kind len place u) ≡ Ok (d, v) → TookUnion width type P w v d
+union_cases width type known P kind len place w u v d f fits lb kb head takes true true k l h =
+    let none : number (size_of width) len ++ number (size_of type) kind ≡ typed width type 0 [] = rw (eqb-true _ _ k, eqb-true _ _ l) (ap (λ (x : List ℕ). number (size_of width) 0 ++ x) (sym (append-nil (number (size_of type) 0)))) in
+    subst (λ (x : Data × View). TookUnion width type P w x.1 x.0) (ok_is (nothing, u) (d, v) h) (record { text = number (size_of width) len ++ number (size_of type) kind; took = head; holds = inl (refl, none) })
+union_cases width type known P kind len place w u v d f fits lb kb head takes true false k l h = absurd cc
+union_cases width type known P kind len place w u v d f fits lb kb head takes false z k l h =
     let (e, is, t) = takes h in
-    let same : (number (size_of width) len ++ number S32 kind) ++ t.text ≡ typed width kind t.text = rw (t.holds.0) (append_assoc (number (size_of width) len) (number S32 kind) t.text) in
+    let same : (number (size_of width) len ++ number (size_of type) kind) ++ t.text ≡ typed width type kind t.text = rw (t.holds.0) (append_assoc (number (size_of width) len) (number (size_of type) kind) t.text) in
     let some : kind ≡ 0 → ⊥ = eqb-false _ _ k in
-    record { text = (number (size_of width) len ++ number S32 kind) ++ t.text; took = took_then head t.took; holds = inr (kind, e, is, omega arith, kb, t.text, omega (arith, t.holds.0), same, t.holds.1) }
+    record { text = (number (size_of width) len ++ number (size_of type) kind) ++ t.text; took = took_then head t.took; holds = inr (kind, e, is, omega arith, kb, t.text, omega (arith, t.holds.0), same, t.holds.1) }
 
-union_took : (width : Width) (known : ℕ → ℕ → ℕ → View → Result (Data × View) PayloadError) (P : ℕ → Data → List ℕ → Type 0) (w v : View) (d : Data) → IsBytes w.bytes
+union_took : (width type : Width) (known : ℕ → ℕ → ℕ → View → Result (Data × View) PayloadError) (P : ℕ → Data → List ℕ → Type 0) (w v : View) (d : Data) → IsBytes w.bytes
     → ((kind len place : ℕ) (u : View) → IsBytes u.bytes → known kind len place u ≡ Ok (d, v) → TakesVariant kind len (P kind) u v d)
-    → union_at width known w ≡ Ok (d, v) → TookUnion width P w v d
+    → union_at width type known w ≡ Ok (d, v) → TookUnion width type P w v d
 unfolding union_at
-union_took width known P w v d fits takes h =
+union_took width type known P w v d fits takes h =
     let second = λ (len : ℕ) (m : View) (kind : ℕ × View). cond (eqb kind.0 0) (cond (eqb len 0) (Ok (nothing, kind.1)) (Err (LengthMismatch w.place))) (known kind.0 len m.place kind.1) in
-    let a = bind_ok (number_at (size_of width) w) (λ len. number_at S32 len.1 >>= second len.0 len.1) (d, v) h in
-    let b = bind_ok (number_at S32 a.0.1) (second a.0.0 a.0.1) (d, v) a.2 in
+    let a = bind_ok (number_at (size_of width) w) (λ len. number_at (size_of type) len.1 >>= second len.0 len.1) (d, v) h in
+    let b = bind_ok (number_at (size_of type) a.0.1) (second a.0.0 a.0.1) (d, v) a.2 in
     let l = number_took (size_of width) w a.0.1 a.0.0 fits a.1 in
     let after = (took_bytes fits l.0).1 in
-    let k = number_took S32 a.0.1 b.0.1 b.0.0 after b.1 in
+    let k = number_took (size_of type) a.0.1 b.0.1 b.0.0 after b.1 in
     let rest = (took_bytes after k.0).1 in
-    union_cases width known P b.0.0 a.0.0 a.0.1.place w b.0.1 v d (LengthMismatch w.place) rest l.1 k.1 (took_then l.0 k.0) (takes b.0.0 a.0.0 a.0.1.place b.0.1 rest) (eqb b.0.0 0) (eqb a.0.0 0) refl refl b.2
+    union_cases width type known P b.0.0 a.0.0 a.0.1.place w b.0.1 v d (LengthMismatch w.place) rest l.1 k.1 (took_then l.0 k.0) (takes b.0.0 a.0.0 a.0.1.place b.0.1 rest) (eqb b.0.0 0) (eqb a.0.0 0) refl refl b.2
 
 mutual
   unfolding data_by members_at variant_at slots_at ReadsBy ReadsMembers ReadsVariant ReadsItems
@@ -149,22 +150,30 @@ mutual
       let a = bind_ok (number_at S8 w) (λ n. Ok (truth (is_odd n.0), n.1)) (d, v) e in
       let t = number_took S8 w a.0.1 a.0.0 fits a.1 in
       subst (λ (x : Data × View). Takes (ReadsBy width bool x.0) w x.1) (ok_is (truth (is_odd a.0.0), a.0.1) (d, v) a.2) (record { text = _; took = t.0; holds = (a.0.0, t.1, refl, refl) })
-  data_took width (unsigned size) w v d form fits e =
-      let a = bind_ok (number_at size w) (λ n. Ok (uint n.0, n.1)) (d, v) e in
-      let t = number_took size w a.0.1 a.0.0 fits a.1 in
-      subst (λ (x : Data × View). Takes (ReadsBy width (unsigned size) x.0) w x.1) (ok_is (uint a.0.0, a.0.1) (d, v) a.2) (record { text = _; took = t.0; holds = (t.1, refl) })
-  data_took width (signed size) w v d form fits e =
-      let a = bind_ok (number_at size w) (λ n. Ok (int (signed_of size n.0), n.1)) (d, v) e in
-      let t = number_took size w a.0.1 a.0.0 fits a.1 in
+  data_took width (named n f) w v d form fits e = data_took width f w v d form fits e
+  data_took width (enumerated f labels) w v d form fits e = data_took width f w v d form fits e
+  data_took width (unsigned order size) w v d form fits e =
+      let a = bind_ok (ordered_at order size w) (λ n. Ok (uint n.0, n.1)) (d, v) e in
+      let t = ordered_took order size w a.0.1 a.0.0 fits a.1 in
+      subst (λ (x : Data × View). Takes (ReadsBy width (unsigned order size) x.0) w x.1) (ok_is (uint a.0.0, a.0.1) (d, v) a.2) (record { text = _; took = t.0; holds = (t.1, refl) })
+  data_took width (signed order size) w v d form fits e =
+      let a = bind_ok (ordered_at order size w) (λ n. Ok (int (signed_of size n.0), n.1)) (d, v) e in
+      let t = ordered_took order size w a.0.1 a.0.0 fits a.1 in
       let s = signed_fits size a.0.0 t.1 in
-      subst (λ (x : Data × View). Takes (ReadsBy width (signed size) x.0) w x.1) (ok_is (int (signed_of size a.0.0), a.0.1) (d, v) a.2)
-      (record { text = _; took = t.0; holds = (s.0, ap (number size) (sym s.1)) })
+      subst (λ (x : Data × View). Takes (ReadsBy width (signed order size) x.0) w x.1) (ok_is (int (signed_of size a.0.0), a.0.1) (d, v) a.2)
+      (record { text = _; took = t.0; holds = (s.0, ap (number_in order size) (sym s.1)) })
   data_took width (string encoding own) w v d form fits e =
       let a = bind_ok (body_at width w) (λ body. text_at encoding w.place body.0.bytes >>= λ s. Ok (phrase s, body.1)) (d, v) e in
       let b = bind_ok (text_at encoding w.place a.0.0.bytes) (λ s. Ok (phrase s, a.0.1)) (d, v) a.2 in
       let t = body_took width w a.0.0 a.0.1 fits a.1 in
       subst (λ (x : Data × View). Takes (ReadsBy width (string encoding width) x.0) w x.1) (ok_is (phrase b.0, a.0.1) (d, v) b.2)
       (record { text = framed width a.0.0.bytes; took = t.took; holds = (a.0.0.bytes, t.fits, refl, text_took encoding w.place a.0.0.bytes b.0 t.bytes b.1) })
+  data_took width (padded encoding n) w v d form fits e =
+      let a = bind_ok (front_at n w) (λ front. padded_at encoding w.place front.0 >>= λ s. Ok (phrase s, front.1)) (d, v) e in
+      let b = bind_ok (padded_at encoding w.place a.0.0) (λ s. Ok (phrase s, a.0.1)) (d, v) a.2 in
+      let t = front_took n w a.0.1 a.0.0 a.1 in
+      subst (λ (x : Data × View). Takes (ReadsBy width (padded encoding n) x.0) w x.1) (ok_is (phrase b.0, a.0.1) (d, v) b.2)
+      (record { text = a.0.0; took = t.0; holds = (t.1, padded_took encoding w.place a.0.0 b.0 (took_bytes fits t.0).0 b.1) })
   data_took width (array own max element) w v d form fits e =
       let a = bind_ok (body_at width w) (λ body. items_at (data_at element) max body.0 >>= λ items. Ok (list items, body.1)) (d, v) e in
       let b = bind_ok (items_at (data_at element) max a.0.0) (λ items. Ok (list items, a.0.1)) (d, v) a.2 in
@@ -172,10 +181,17 @@ mutual
       let rest = items_took (data_at element) (Reads element) (record { takes = λ u x y. data_took (own_width element) element u x y form }) max a.0.0 b.0 t.bytes b.1 in
       subst (λ (x : Data × View). Takes (ReadsBy width (array own max element) x.0) w x.1) (ok_is (list b.0, a.0.1) (d, v) b.2)
       (record { text = framed width a.0.0.bytes; took = t.took; holds = (rest.0, (a.0.0.bytes, t.fits, refl, rest.1)) })
-  data_took width (fixed n element) w v d form fits e =
+  data_took width (fixed (Some own) n element) w v d form fits e =
+      let a = bind_ok (body_at width w) (λ body. fixed_at (data_at element) n body.0 >>= λ items. Ok (list items.0, body.1)) (d, v) e in
+      let b = bind_ok (fixed_at (data_at element) n a.0.0) (λ items. Ok (list items.0, a.0.1)) (d, v) a.2 in
+      let t = body_took width w a.0.0 a.0.1 fits a.1 in
+      let rest = fixed_took (data_at element) (Reads element) (record { takes = λ u x y. data_took (own_width element) element u x y form.1 }) n a.0.0 b.0.1 b.0.0 t.bytes b.1 in
+      subst (λ (x : Data × View). Takes (ReadsBy width (fixed (Some own) n element) x.0) w x.1) (ok_is (list b.0.0, a.0.1) (d, v) b.2)
+      (record { text = framed width a.0.0.bytes; took = t.took; holds = (rest.holds.0, (a.0.0.bytes, t.fits, refl, (rest.text, b.0.1.bytes, rest.took.bytes, rest.holds.1))) })
+  data_took width (fixed None n element) w v d form fits e =
       let a = bind_ok (fixed_at (data_at element) n w) (λ items. Ok (list items.0, items.1)) (d, v) e in
       let t = fixed_took (data_at element) (Reads element) (record { takes = λ u x y. data_took (own_width element) element u x y form.1 }) n w a.0.1 a.0.0 fits a.1 in
-      subst (λ (x : Data × View). Takes (ReadsBy width (fixed n element) x.0) w x.1) (ok_is (list a.0.0, a.0.1) (d, v) a.2) (record { text = t.text; took = t.took; holds = t.holds })
+      subst (λ (x : Data × View). Takes (ReadsBy width (fixed None n element) x.0) w x.1) (ok_is (list a.0.0, a.0.1) (d, v) a.2) (record { text = t.text; took = t.took; holds = t.holds })
   data_took width («struct» None fs) w v d form fits e =
       let a = bind_ok (members_at fs w) (λ members. Ok (tuple members.0, members.1)) (d, v) e in
       let t = members_took fs w a.0.1 a.0.0 form.1 fits a.1 in
@@ -187,12 +203,12 @@ mutual
       let rest = members_took fs a.0.0 b.0.1 b.0.0 form.1 t.bytes b.1 in
       subst (λ (x : Data × View). Takes (ReadsBy width («struct» (Some own) fs) x.0) w x.1) (ok_is (tuple b.0.0, a.0.1) (d, v) b.2)
       (record { text = framed width a.0.0.bytes; took = t.took; holds = (a.0.0.bytes, t.fits, refl, (rest.text, b.0.1.bytes, rest.took.bytes, rest.holds)) })
-  data_took width (union vs) w v d form fits e =
-      let t = union_took width (λ kind len place u. variant_at vs kind len place w u) (λ kind x body. ReadsVariant vs kind x body) w v d fits (λ kind len place u. variant_took vs kind len place w u v d form) e in
+  data_took width (union own type vs) w v d form fits e =
+      let t = union_took width type (λ kind len place u. variant_at vs kind len place w u) (λ kind x body. ReadsVariant vs kind x body) w v d fits (λ kind len place u. variant_took vs kind len place w u v d form) e in
       elim t.holds [
-        | inl (is, none) ↦ subst (λ (x : Data). Takes (ReadsBy width (union vs) x) w v) (sym is) (record { text = t.text; took = t.took; holds = none })
+        | inl (is, none) ↦ subst (λ (x : Data). Takes (ReadsBy width (union own type vs) x) w v) (sym is) (record { text = t.text; took = t.took; holds = none })
         | inr (kind, x, is, some, below, body, short, same, begins) ↦
-            subst (λ (x : Data). Takes (ReadsBy width (union vs) x) w v) (sym is) (record { text = t.text; took = t.took; holds = (some, below, (body, short, same, begins)) })
+            subst (λ (x : Data). Takes (ReadsBy width (union own type vs) x) w v) (sym is) (record { text = t.text; took = t.took; holds = (some, below, (body, short, same, begins)) })
       ]
   data_took width (tagged own ms) w v d form fits e =
       let one : Filler = item_by (slots_at ms) in

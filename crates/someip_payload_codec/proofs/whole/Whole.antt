@@ -1,36 +1,38 @@
 -- The whole input, and what was written read again.
-use Rattle.std.proofs.Common.{◌≡◌, ◌⊎◌, inl, inr, ℕ, ◌^◌, ◌<◌, ◌≤◌, Bool, true, false, cond, ltb, eqb, List, [], ◌∷◌, ◌++◌, length, take, drop, Result, Ok, Err, Some, None, refl, sym, ap, subst, ◌∙◌, arith}
+use Rattle.std.proofs.Common.{◌≡◌, ◌⊎◌, inl, inr, ℕ, ◌-◌, ◌^◌, ◌<◌, ◌≤◌, not, ◌&&◌, replicate, Bool, true, false, cond, ltb, eqb, List, [], ◌∷◌, ◌++◌, length, take, drop, Result, Ok, Err, Some, None, refl, sym, ap, subst, ◌∙◌, arith}
 use Rattle.std.specs.Prelude.{ℤ, pos, negsuc, IfOk, IfErr}
 use Rattle.std.specs.Int.{cast_unsigned}
 use Rattle.std.specs.Int.RustNames.{FitsSigned}
 use Rattle.std.specs.Str.{is_utf8}
-use Rattle.std.proofs.lemmas.Bool.{ltb-true, ltb-false, eqb-true}
+use Rattle.std.proofs.lemmas.Bool.{and_parts, ltb-true, ltb-false, eqb-true}
 use Rattle.std.proofs.lemmas.List.{take_at, take-append-drop, append-nil, length-append, length-take}
 use Rattle.someip_payload_values.specs.declared.error.PayloadError.{PayloadError}
 use Rattle.someip_payload_values.specs.declared.error.PayloadError.TheVariants as errors
 use Rattle.someip_payload_values.specs.declared.error.PayloadError.TheVariants.{TooDeep, BadShape, NotOfShape, TooMany, TooLong, UnknownVariant}
 use Rattle.someip_payload_values.specs.declared.number.Size.{Size}
 use Rattle.someip_payload_values.specs.declared.number.Size.TheVariants.{S8, S16, S32, S64}
+use Rattle.someip_payload_values.specs.declared.number.Order.{Order}
 use Rattle.someip_payload_values.specs.declared.shape.Width.{Width}
 use Rattle.someip_payload_values.specs.declared.shape.Width.TheVariants.{W32}
 use Rattle.someip_payload_values.specs.declared.value.Value.{Value}
-use Rattle.someip_payload_values.specs.Data.{Form, bool, unsigned, signed, string, array, fixed, «struct», union, tagged, Forms, no_forms, form_then, Variants, no_variants, variant, Members, no_members, member_then, Data, truth, uint, int, phrase, list, tuple, nothing, chosen, slotted, Items, no_items, item, Slots, no_slots, present, absent, count}
+use Rattle.someip_payload_values.specs.Data.{Form, bool, unsigned, signed, string, padded, array, fixed, «struct», union, tagged, named, enumerated, Forms, no_forms, form_then, Variants, no_variants, variant, Members, no_members, member_then, Data, truth, uint, int, phrase, list, tuple, nothing, chosen, slotted, Items, no_items, item, Slots, no_slots, present, absent, count}
 use Rattle.someip_payload_codec.specs.View.{View}
 use Rattle.someip_payload_values.specs.View.{data_of}
 use Rattle.someip_payload_values.specs.Steps.{◌>>=◌, Fails, Gives}
 use Rattle.someip_payload_values.specs.Check.{depth, is_form, checked}
-use Rattle.someip_payload_values.specs.Numbers.{width_of, limit_of, size_of, number, framed, typed, is_odd, Framed, Typed, Begins, bit_of}
+use Rattle.someip_payload_values.specs.Numbers.{width_of, limit_of, size_of, is_signed, number, number_in, framed, typed, is_odd, Framed, Typed, Begins, bit_of}
 use Rattle.someip_payload_codec.specs.Grammar.{is_member, Picks, Each, SkipsOthers, has_required, Reads, ReadsBy, ReadsMembers, ReadsVariant, ReadsItems}
 use Rattle.someip_payload_codec.specs.Texts.{SpellsText}
 use Rattle.someip_payload_codec.specs.Reading.{data_at, decoded}
 use Rattle.someip_payload_values.specs.Tags.{TaggedItem, item_bytes, items_bytes, with_id, own_width, width_in, wire_type_of}
-use Rattle.someip_payload_values.specs.Writing.{is_signed, count_forms, number_text, signed_text, body_text, text_body, each_text, array_text, fixed_text, struct_text, typed_text, chosen_text, item_text, absent_text, count_members, count_slots, text_of, members_text, variant_text, slots_text, encoded}
+use Rattle.someip_payload_values.specs.Writing.{count_forms, number_text, signed_text, body_text, text_body, each_text, array_text, fixed_text, framed_text, padded_text, has_zero, typed_text, chosen_text, item_text, absent_text, count_members, count_slots, text_of, members_text, variant_text, slots_text, encoded}
 use Rattle.someip_payload_codec.specs.Faults.{FaultIn, IsFirstFault, whole}
 use Rattle.someip_payload_values.proofs.StepLemmas.{passed, kept, bind_err, only_first}
 use Rattle.someip_payload_codec.proofs.parts.Parts.{IsBytes, bind_ok, ok_is, Took}
 use Rattle.someip_payload_codec.proofs.parts.Forms.{IsForm, AreForms, AreVariants, AreMembers, form_is}
 use Rattle.someip_payload_codec.proofs.tagged.TaggedWritten.{AreOfMembers, own_type, own_width_in, of_more, none_skipped, none_with, one_with, member_itself, reads_past}
 use Rattle.someip_payload_codec.proofs.texts.TextLemmas.{text_spells}
+use Rattle.someip_payload_codec.proofs.texts.PaddedTexts.{padded_written}
 use Rattle.someip_payload_codec.proofs.whole.Sound.{data_took}
 use Rattle.someip_payload_codec.proofs.whole.Complete.{data_again, reads_some}
 use Rattle.someip_payload_codec.proofs.whole.First.{data_failed}
@@ -72,11 +74,11 @@ takes_some f d text good reads = reads_some (own_width f) f d text (checked_is f
 
 -- ---- what is written is spelled so
 
-number_reads : (size : Size) (n : ℕ) (text : List ℕ) → number_text size n ≡ Ok text → (n < limit_of size) × (text ≡ number size n)
+number_reads : (order : Order) (size : Size) (n : ℕ) (text : List ℕ) → number_text order size n ≡ Ok text → (n < limit_of size) × (text ≡ number_in order size n)
 unfolding number_text
-number_reads size n text e =
-    let a = passed (ltb n (limit_of size)) (Ok (number size n)) (NotOfShape 0) text e in
-    (ltb-true _ _ a.0, sym (ok_is (number size n) text a.1))
+number_reads order size n text e =
+    let a = passed (ltb n (limit_of size)) (Ok (number_in order size n)) (NotOfShape 0) text e in
+    (ltb-true _ _ a.0, sym (ok_is (number_in order size n) text a.1))
 
 signed_is : (size : Size) (z : ℤ) → is_signed size z ≡ true → FitsSigned (width_of size) z
 signed_is S8 (pos n) e = record { sfits = ltb-true _ _ e }
@@ -88,11 +90,11 @@ signed_is S32 (negsuc n) e = record { sfits = ltb-true _ _ e }
 signed_is S64 (pos n) e = record { sfits = ltb-true _ _ e }
 signed_is S64 (negsuc n) e = record { sfits = ltb-true _ _ e }
 
-signed_reads : (size : Size) (z : ℤ) (text : List ℕ) → signed_text size z ≡ Ok text → FitsSigned (width_of size) z × (text ≡ number size (cast_unsigned (width_of size) z))
+signed_reads : (order : Order) (size : Size) (z : ℤ) (text : List ℕ) → signed_text order size z ≡ Ok text → FitsSigned (width_of size) z × (text ≡ number_in order size (cast_unsigned (width_of size) z))
 unfolding signed_text
-signed_reads size z text e =
-    let a = passed (is_signed size z) (Ok (number size (cast_unsigned (width_of size) z))) (NotOfShape 0) text e in
-    (signed_is size z a.0, sym (ok_is (number size (cast_unsigned (width_of size) z)) text a.1))
+signed_reads order size z text e =
+    let a = passed (is_signed size z) (Ok (number_in order size (cast_unsigned (width_of size) z))) (NotOfShape 0) text e in
+    (signed_is size z a.0, sym (ok_is (number_in order size (cast_unsigned (width_of size) z)) text a.1))
 
 body_reads : (width : Width) (P : List ℕ → Type 0) (body text : List ℕ) → P body → body_text width body ≡ Ok text → Framed width P text
 unfolding body_text
@@ -108,27 +110,27 @@ each_reads one P reads (item d ds) text e =
     let b = bind_ok (each_text one ds) (λ others. Ok (a.0 ++ others)) text a.2 in
     (a.0, b.0, sym (ok_is (a.0 ++ b.0) text b.2), reads d a.0 a.1, each_reads one P reads ds b.0 b.1)
 
-picks_reads : (t : Bool) (P Q : List ℕ → Type 0) (r s : Result (List ℕ) PayloadError) (kind : ℕ) (text : List ℕ)
-    → (r ≡ Ok text → Typed W32 kind (Begins P) text) → (s ≡ Ok text → Typed W32 kind (Begins Q) text) → cond t r s ≡ Ok text → Typed W32 kind (Begins (λ bytes. Picks t (P bytes) (Q bytes))) text
-picks_reads true P Q r s kind text first next e = first e
-picks_reads false P Q r s kind text first next e = next e
+picks_reads : (width type : Width) (t : Bool) (P Q : List ℕ → Type 0) (r s : Result (List ℕ) PayloadError) (kind : ℕ) (text : List ℕ)
+    → (r ≡ Ok text → Typed width type kind (Begins P) text) → (s ≡ Ok text → Typed width type kind (Begins Q) text) → cond t r s ≡ Ok text → Typed width type kind (Begins (λ bytes. Picks t (P bytes) (Q bytes))) text
+picks_reads width type true P Q r s kind text first next e = first e
+picks_reads width type false P Q r s kind text first next e = next e
 
-chosen_reads : (kind : ℕ) (P : List ℕ → Type 0) (written : Result (List ℕ) PayloadError) (text : List ℕ) → ((body : List ℕ) → written ≡ Ok body → P body) → chosen_text kind written ≡ Ok text → Typed W32 kind (Begins P) text
+chosen_reads : (width type : Width) (kind : ℕ) (P : List ℕ → Type 0) (written : Result (List ℕ) PayloadError) (text : List ℕ) → ((body : List ℕ) → written ≡ Ok body → P body) → chosen_text width type kind written ≡ Ok text → Typed width type kind (Begins P) text
 unfolding chosen_text typed_text
-chosen_reads kind P written text reads e =
-    let a = bind_ok written (typed_text kind) text e in
-    let b = passed (ltb (length a.0) (2 ^ 32)) (Ok (typed W32 kind a.0)) (TooLong 0) text a.2 in
-    (a.0, ltb-true _ _ b.0, sym (ok_is (typed W32 kind a.0) text b.1), (a.0, [], sym (append-nil a.0), reads a.0 a.1))
+chosen_reads width type kind P written text reads e =
+    let a = bind_ok written (typed_text width type kind) text e in
+    let b = passed (ltb (length a.0) (limit_of (size_of width))) (Ok (typed width type kind a.0)) (TooLong 0) text a.2 in
+    (a.0, ltb-true _ _ b.0, sym (ok_is (typed width type kind a.0) text b.1), (a.0, [], sym (append-nil a.0), reads a.0 a.1))
 
 known_some : (t : Bool) (n kind : ℕ) (r s : Result (List ℕ) PayloadError) (text : List ℕ) → eqb n kind ≡ t → 0 < n → (s ≡ Ok text → 0 < kind) → cond t r s ≡ Ok text → 0 < kind
 known_some true n kind r s text same some next e = omega (arith, eqb-true n kind same)
 known_some false n kind r s text same some next e = next e
 
-variant_some : (vs : Variants) (kind : ℕ) (d : Data) (text : List ℕ) → AreVariants vs → variant_text vs kind d ≡ Ok text → 0 < kind
+variant_some : (width type : Width) (vs : Variants) (kind : ℕ) (d : Data) (text : List ℕ) → AreVariants vs → variant_text width type vs kind d ≡ Ok text → 0 < kind
 unfolding variant_text
-variant_some no_variants kind d text is e = absurd cc
-variant_some (variant n f vs) kind d text is e =
-    known_some (eqb n kind) n kind (chosen_text kind (text_of f d)) (variant_text vs kind d) text refl is.0 (variant_some vs kind d text is.2) e
+variant_some width type no_variants kind d text is e = absurd cc
+variant_some width type (variant n f vs) kind d text is e =
+    known_some (eqb n kind) n kind (chosen_text width type kind (text_of f d)) (variant_text width type vs kind d) text refl is.0 (variant_some width type vs kind d text is.2) e
 
 bit_reads : (b : Bool) (text : List ℕ) → text ≡ number S8 (bit_of b) → (n : ℕ) × (n < 2 ^ 8) × (text ≡ number S8 n) × (b ≡ is_odd n)
 bit_reads true text e = (1, omega arith, e, refl)
@@ -139,12 +141,19 @@ abbrev WrittenItems : Members → Slots → List ℕ → Type 0
 WrittenItems ms ss text = (items : List TaggedItem) × (text ≡ items_bytes items) × ReadsItems ms ss items × AreOfMembers ms items × (has_required ms ss ≡ true)
 
 mutual
-  unfolding text_of members_text variant_text slots_text array_text fixed_text struct_text item_text absent_text ReadsBy ReadsMembers ReadsVariant ReadsItems
+  unfolding text_of members_text variant_text slots_text array_text fixed_text framed_text item_text padded_text absent_text ReadsBy ReadsMembers ReadsVariant ReadsItems
 
   pub text_reads : (f : Form) (d : Data) (text : List ℕ) → IsForm f → text_of f d ≡ Ok text → Reads f d text
+  text_reads (named n f) d text is e = text_reads f d text is e
+  text_reads (enumerated f labels) d text is e = text_reads f d text is e
   text_reads bool (truth b) text is e = bit_reads b text (sym (ok_is (number S8 (bit_of b)) text e))
-  text_reads (unsigned size) (uint n) text is e = number_reads size n text e
-  text_reads (signed size) (int z) text is e = signed_reads size z text e
+  text_reads (unsigned order size) (uint n) text is e = number_reads order size n text e
+  text_reads (signed order size) (int z) text is e = signed_reads order size z text e
+  text_reads (padded encoding n) (phrase s) text is e =
+      let a = passed (is_utf8 s && not (has_zero s)) (padded_text n (text_body encoding s)) (NotOfShape 0) text e in
+      let p = and_parts (is_utf8 s) (not (has_zero s)) a.0 in
+      let b = kept (ltb n (length (text_body encoding s))) (Ok (text_body encoding s ++ replicate (n - length (text_body encoding s)) 0)) (TooLong 0) text a.1 in
+      padded_written encoding n s text p.0 p.1 (ltb-false _ _ b.0) (sym (ok_is _ text b.1))
   text_reads (string encoding width) (phrase s) text is e =
       let a = passed (is_utf8 s) (body_text width (text_body encoding s)) (NotOfShape 0) text e in
       body_reads width (SpellsText encoding s) (text_body encoding s) text (text_spells encoding s a.0) a.1
@@ -152,7 +161,11 @@ mutual
       let a = kept (ltb max (count ds)) (each_text (text_of element) ds >>= body_text width) (TooMany 0) text e in
       let b = bind_ok (each_text (text_of element) ds) (body_text width) text a.1 in
       (ltb-false _ _ a.0, body_reads width (Each (Reads element) ds) b.0 text (each_reads (text_of element) (Reads element) (λ d bytes good. text_reads element d bytes is good) ds b.0 b.1) b.2)
-  text_reads (fixed n element) (list ds) text is e =
+  text_reads (fixed (Some width) n element) (list ds) text is e =
+      let a = passed (eqb (count ds) n) (each_text (text_of element) ds >>= body_text width) (NotOfShape 0) text e in
+      let b = bind_ok (each_text (text_of element) ds) (body_text width) text a.1 in
+      (eqb-true _ _ a.0, body_reads width (Begins (Each (Reads element) ds)) b.0 text (b.0, [], sym (append-nil b.0), each_reads (text_of element) (Reads element) (λ d bytes good. text_reads element d bytes is.1 good) ds b.0 b.1) b.2)
+  text_reads (fixed None n element) (list ds) text is e =
       let a = passed (eqb (count ds) n) (each_text (text_of element) ds) (NotOfShape 0) text e in
       (eqb-true _ _ a.0, each_reads (text_of element) (Reads element) (λ d bytes good. text_reads element d bytes is.1 good) ds text a.1)
   text_reads («struct» None fs) (tuple ds) text is e =
@@ -162,10 +175,10 @@ mutual
       let a = passed (eqb (count ds) (count_forms fs)) (members_text fs ds >>= body_text width) (NotOfShape 0) text e in
       let b = bind_ok (members_text fs ds) (body_text width) text a.1 in
       body_reads width (Begins (ReadsMembers fs ds)) b.0 text (b.0, [], sym (append-nil b.0), members_read fs ds b.0 is.1 (eqb-true _ _ a.0) b.1) b.2
-  text_reads (union vs) nothing text is e = sym (ok_is (typed W32 0 []) text e)
-  text_reads (union vs) (chosen kind d) text is e =
-      let a = passed (ltb kind (2 ^ 32)) (variant_text vs kind d) (UnknownVariant 0) text e in
-      (variant_some vs kind d text is a.1, ltb-true _ _ a.0, variant_reads vs kind d text is a.1)
+  text_reads (union width type vs) nothing text is e = sym (ok_is (typed width type 0 []) text e)
+  text_reads (union width type vs) (chosen kind d) text is e =
+      let a = passed (ltb kind (limit_of (size_of type))) (variant_text width type vs kind d) (UnknownVariant 0) text e in
+      (variant_some width type vs kind d text is a.1, ltb-true _ _ a.0, variant_reads width type vs kind d text is a.1)
   text_reads (tagged width ms) (slotted ss) text is e =
       let a = passed (eqb (count_slots ss) (count_members ms)) (slots_text ms ss >>= body_text width) (NotOfShape 0) text e in
       let b = bind_ok (slots_text ms ss) (body_text width) text a.1 in
@@ -182,12 +195,12 @@ mutual
   members_read no_forms (item d ds) text is same e = absurd (omega arith)
   members_read (form_then f fs) no_items text is same e = absurd (omega arith)
 
-  pub variant_reads : (vs : Variants) (kind : ℕ) (d : Data) (text : List ℕ) → AreVariants vs → variant_text vs kind d ≡ Ok text → Typed W32 kind (Begins (ReadsVariant vs kind d)) text
-  variant_reads no_variants kind d text is e = absurd cc
-  variant_reads (variant n f vs) kind d text is e =
-      picks_reads (eqb n kind) (Reads f d) (ReadsVariant vs kind d) (chosen_text kind (text_of f d)) (variant_text vs kind d) kind text
-      (λ here. chosen_reads kind (Reads f d) (text_of f d) text (λ body good. text_reads f d body is.1 good) here)
-      (λ later. variant_reads vs kind d text is.2 later) e
+  pub variant_reads : (width type : Width) (vs : Variants) (kind : ℕ) (d : Data) (text : List ℕ) → AreVariants vs → variant_text width type vs kind d ≡ Ok text → Typed width type kind (Begins (ReadsVariant vs kind d)) text
+  variant_reads width type no_variants kind d text is e = absurd cc
+  variant_reads width type (variant n f vs) kind d text is e =
+      picks_reads width type (eqb n kind) (Reads f d) (ReadsVariant vs kind d) (chosen_text width type kind (text_of f d)) (variant_text width type vs kind d) kind text
+      (λ here. chosen_reads width type kind (Reads f d) (text_of f d) text (λ body good. text_reads f d body is.1 good) here)
+      (λ later. variant_reads width type vs kind d text is.2 later) e
 
   pub slots_read : (ms : Members) (ss : Slots) (text : List ℕ) → AreMembers ms → count_slots ss ≡ count_members ms → slots_text ms ss ≡ Ok text → WrittenItems ms ss text
   slots_read no_members no_slots text is same e = ([], sym (ok_is [] text e), tt, tt, refl)

@@ -11,7 +11,7 @@ use Rattle.someip_payload_values.specs.declared.shape.Width.{Width}
 use Rattle.someip_payload_values.specs.declared.tag.WireType.{WireType}
 use Rattle.someip_payload_values.specs.declared.tag.WireType.TheVariants.{Basic, OwnLength, Length}
 use Rattle.someip_payload_values.specs.Check.{checked, depth, is_form}
-use Rattle.someip_payload_values.specs.Data.{Form, bool, unsigned, signed, string, array, fixed, «struct», union, tagged, Forms, no_forms, form_then, Variants, no_variants, variant, Members, member_then, Slots, present, absent}
+use Rattle.someip_payload_values.specs.Data.{Form, bool, unsigned, signed, string, padded, array, fixed, «struct», union, tagged, named, enumerated, Forms, no_forms, form_then, Variants, no_variants, variant, Members, member_then, Slots, present, absent}
 use Rattle.someip_payload_values.specs.Names.{fault_place}
 use Rattle.someip_payload_values.specs.Numbers.{width_of, size_of, field_len, number, framed}
 use Rattle.someip_payload_values.specs.Tags.{items_bytes, tag_number, own_width, has_wire_type, width_in}
@@ -45,13 +45,13 @@ body_ends n width w body (fits, rest, is) le =
 skip_ends : (n : ℕ) (w : View) (text rest : List ℕ) → w.bytes ≡ text ++ rest → w.place + length w.bytes ≤ n → w.place + length text + length (drop (length text) w.bytes) ≤ n
 skip_ends n w text rest is le = omega (arith, ap length is, length-append text rest, length-drop (length text) w.bytes)
 
-head_ends : (n : ℕ) (width : Width) (len kind : ℕ) (w v : View) → HasHead width len kind w v → w.place + length w.bytes ≤ n → (w.place + field_len width ≤ n) × (v.place + length v.bytes ≤ n)
-head_ends n width len kind w v (fits, small, is, same) le =
-    let place : v.place ≡ w.place + (field_len width + 4) = ap (λ (x : View). x.place) same in
-    let long = ap length is ∙ length-append (number (size_of width) len) (number S32 kind ++ v.bytes) in
-    let rest = length-append (number S32 kind) v.bytes in
+head_ends : (n : ℕ) (width type : Width) (len kind : ℕ) (w v : View) → HasHead width type len kind w v → w.place + length w.bytes ≤ n → (w.place + field_len width ≤ n) × (v.place + length v.bytes ≤ n)
+head_ends n width type len kind w v (fits, small, is, same) le =
+    let place : v.place ≡ w.place + (field_len width + field_len type) = ap (λ (x : View). x.place) same in
+    let long = ap length is ∙ length-append (number (size_of width) len) (number (size_of type) kind ++ v.bytes) in
+    let rest = length-append (number (size_of type) kind) v.bytes in
     let field = number_length (size_of width) len in
-    let four = number_length S32 kind in
+    let kinds = number_length (size_of type) kind in
     (omega arith, omega arith)
 
 tag_ends : (n : ℕ) (reserved : Bool) (t : WireType) (id : ℕ) (w v : View) → HasTag reserved t id w v → w.place + length w.bytes ≤ n → v.place + length v.bytes ≤ n
@@ -74,9 +74,14 @@ mutual
   unfolding FaultBy FaultInMembers FaultInVariant FaultBehindTag
 
   in_form : (n : ℕ) (width : Width) (f : Form) (e : PayloadError) (w : View) → FaultBy width f e w → w.place + length w.bytes ≤ n → fault_place e ≤ n
+  in_form n width (named name f) e w h le = in_form n width f e w h le
+  in_form n width (enumerated f labels) e w h le = in_form n width f e w h le
+  in_form n width (padded encoding count) e w (inl h) le = short_place n w e h.1 (omega arith)
+  in_form n width (padded encoding count) e w (inr (front, rest, parts, len, inl (open_end, same))) le = placed n e _ same (omega arith)
+  in_form n width (padded encoding count) e w (inr (front, rest, parts, len, inr (ended, bad, same))) le = placed n e _ same (omega arith)
   in_form n width bool e w h le = short_place n w e h.1 (omega arith)
-  in_form n width (unsigned size) e w h le = short_place n w e h.1 (omega arith)
-  in_form n width (signed size) e w h le = short_place n w e h.1 (omega arith)
+  in_form n width (unsigned order size) e w h le = short_place n w e h.1 (omega arith)
+  in_form n width (signed order size) e w h le = short_place n w e h.1 (omega arith)
   in_form n width (string encoding own) e w (inl (none, same)) le = short_place n w e same (omega arith)
   in_form n width (string encoding own) e w (inr (body, has, inl (open_end, same))) le = placed n e _ same (omega arith)
   in_form n width (string encoding own) e w (inr (body, has, inr (ended, bad, same))) le = placed n e _ same (omega arith)
@@ -85,15 +90,18 @@ mutual
       let end = body_ends n width w body has le in placed n e _ same (omega (arith, ap length parts, length-append text rest))
   in_form n width (array own most element) e w (inr (body, has, (ds, text, rest, parts, each, some, inr (few, in_it)))) le =
       in_form n (own_width element) element e _ in_it (skip_ends n (body_view width w body) text rest parts (body_ends n width w body has le))
-  in_form n width (fixed count element) e w (ds, text, rest, parts, each, few, in_it) le = in_form n (own_width element) element e _ in_it (skip_ends n w text rest parts le)
+  in_form n width (fixed (Some own) count element) e w (inl (none, same)) le = short_place n w e same (omega arith)
+  in_form n width (fixed (Some own) count element) e w (inr (body, has, (ds, text, rest, parts, each, few, in_it))) le =
+      in_form n (own_width element) element e _ in_it (skip_ends n (body_view width w body) text rest parts (body_ends n width w body has le))
+  in_form n width (fixed None count element) e w (ds, text, rest, parts, each, few, in_it) le = in_form n (own_width element) element e _ in_it (skip_ends n w text rest parts le)
   in_form n width («struct» None fs) e w h le = in_members n fs e w h le
   in_form n width («struct» (Some own) fs) e w (inl (none, same)) le = short_place n w e same (omega arith)
   in_form n width («struct» (Some own) fs) e w (inr (body, has, in_it)) le = in_members n fs e _ in_it (body_ends n width w body has le)
-  in_form n width (union vs) e w (inl h) le = short_place n w e h.1 (omega arith)
-  in_form n width (union vs) e w (inr (inl (long, h))) le = short_place n (skip (field_len width) w) e h.1 (omega arith)
-  in_form n width (union vs) e w (inr (inr (len, kind, v, head, inl (zero, some, same)))) le = placed n e _ same (omega arith)
-  in_form n width (union vs) e w (inr (inr (len, kind, v, head, inr (some, in_it)))) le =
-      let ends = head_ends n width len kind w v head le in in_variant n vs (w.place + field_len width) e kind len w v in_it ends.0 (omega arith) ends.1
+  in_form n width (union own type vs) e w (inl h) le = short_place n w e h.1 (omega arith)
+  in_form n width (union own type vs) e w (inr (inl (long, h))) le = short_place n (skip (field_len width) w) e h.1 (omega arith)
+  in_form n width (union own type vs) e w (inr (inr (len, kind, v, head, inl (zero, some, same)))) le = placed n e _ same (omega arith)
+  in_form n width (union own type vs) e w (inr (inr (len, kind, v, head, inr (some, in_it)))) le =
+      let ends = head_ends n width type len kind w v head le in in_variant n vs (w.place + field_len width) e kind len w v in_it ends.0 (omega arith) ends.1
   in_form n width (tagged own ms) e w (inl (none, same)) le = short_place n w e same (omega arith)
   in_form n width (tagged own ms) e w (inr (body, has, (items, ss, rest, parts, reads, others, inl (empty, missing, same)))) le = placed n e _ same (omega arith)
   in_form n width (tagged own ms) e w (inr (body, has, (items, ss, rest, parts, reads, others, inr (some, inl h)))) le =

@@ -4,7 +4,7 @@ use Rattle.toml.specs.Data.{string, integer, Data, array, table, no_items, item,
 use Rattle.someip_wire.specs.declared.header.MessageType.{MessageType}
 use Rattle.someip_wire.specs.declared.header.MessageType.TheVariants.{Notification}
 use Rattle.someip_wire.specs.Spelling.{MessageValue}
-use Rattle.someip_payload_values.specs.Data.{«struct», u8, u16, no_forms, form_then}
+use Rattle.someip_payload_values.specs.Data.{«struct», named, enumerated, u8, u16, no_forms, form_then}
 use Rattle.someipctl_show.specs.types.Types.{TypedMessageValue, TypesValue}
 
 -- messages of a type with the Message ID 1234 8001, whose payload is a number of 16 bits and one of 8
@@ -14,6 +14,17 @@ speed_of kind name = record { service = 0x1234; method = 0x8001; kind = kind; fo
 -- events are such, and their value is called speed
 abbrev pub speed_types : TypesValue
 speed_types = speed_of Notification (Some (codes "speed")) ∷ []
+
+-- the same with names of the members, and of two numbers of the second
+abbrev pub named_types : TypesValue
+named_types = record {
+  service = 0x1234;
+  method = 0x8001;
+  kind = Notification;
+  name = Some (codes "speed");
+  form = «struct» None (form_then (named (codes "speed") u16) (
+      form_then (named (codes "gear") (enumerated u8 ((pos 0, codes "P") ∷ ((pos 3, codes "D") ∷ [])))) no_forms));
+} ∷ []
 
 -- a message of a type with a Message ID and a payload
 abbrev pub message_with : MessageType → ℕ → List ℕ → MessageValue

@@ -1,10 +1,12 @@
 -- What types files say as trees of numbers, by which proofs tell them apart.
-use Rattle.std.specs.Prelude.{ℕ, ◌==◌, Bool, if◌then◌else◌, List, Option, Some, None, ◌≡◌, refl}
+use Rattle.std.specs.Prelude.{ℕ, ℤ, pos, negsuc, [], ◌∷◌, ◌==◌, Bool, if◌then◌else◌, List, Option, Some, None, ◌≡◌, refl}
 use Rattle.std.proofs.Common.{ap, ◌∙◌}
 use Rattle.std.specs.Coded.{Coded, code_by, coded×, coded_ℕ, coded_list, coded_option}
 use base.Stored.{Gv, gnil, gnum, gcons, num}
 use Rattle.someip_wire.specs.contracts.header.MessageType as kind
 use Rattle.someip_wire.specs.declared.header.MessageType.{MessageType}
+use Rattle.someip_payload_values.specs.declared.number.Order.{Order}
+use Rattle.someip_payload_values.specs.declared.number.Order.TheVariants.{Big, Little}
 use Rattle.someip_payload_values.specs.declared.number.Size.{Size}
 use Rattle.someip_payload_values.specs.declared.number.Size.TheVariants.{S8, S16, S32, S64}
 use Rattle.someip_payload_values.specs.declared.shape.Width.{Width}
@@ -12,7 +14,7 @@ use Rattle.someip_payload_values.specs.declared.shape.Width.TheVariants.{W8, W16
 use Rattle.someip_payload_values.specs.declared.shape.Encoding.{Encoding}
 use Rattle.someip_payload_values.specs.declared.shape.Encoding.TheVariants.{Utf8, Utf16}
 use Rattle.someip_payload_values.specs.Numbers.{bit_of}
-use Rattle.someip_payload_values.specs.Data.{Form, bool, unsigned, signed, string, array, fixed, «struct», union, tagged, Forms, no_forms, form_then, Variants, no_variants, variant, Members, no_members, member_then}
+use Rattle.someip_payload_values.specs.Data.{Form, bool, unsigned, signed, string, padded, array, fixed, «struct», union, tagged, named, enumerated, Forms, no_forms, form_then, Variants, no_variants, variant, Members, no_members, member_then}
 use Rattle.someipctl_show.specs.types.Types.{TypedMessageValue, TypesValue}
 use Rattle.std.specs.Prelude.{true, false}
 
@@ -32,6 +34,17 @@ same_size S8 = refl
 same_size S16 = refl
 same_size S32 = refl
 same_size S64 = refl
+
+abbrev pub order_number : Order → ℕ
+order_number Big = 0
+order_number Little = 1
+
+abbrev pub numbered_order : ℕ → Order
+numbered_order n = if n == 0 then Big else Little
+
+pub same_order : (order : Order) → numbered_order (order_number order) ≡ order
+same_order Big = refl
+same_order Little = refl
 
 abbrev pub width_number : Width → ℕ
 width_number W8 = 0
@@ -77,6 +90,48 @@ pub same_bit : (b : Bool) → numbered_bit (bit_of b) ≡ b
 same_bit true = refl
 same_bit false = refl
 
+both : {A B C : Type 0} (f : A → B → C) {a c : A} {b d : B} → a ≡ c → b ≡ d → f a b ≡ f c d
+both f {c = c} {b = b} p q = ap (λ x. f x b) p ∙ ap (f c) q
+
+-- ---- trees of names
+
+abbrev pub bytes_tree : List ℕ → Gv
+bytes_tree [] = gnil
+bytes_tree (b ∷ bs) = gcons (gnum b) (bytes_tree bs)
+
+abbrev pub bytes_of_tree : Gv → List ℕ
+bytes_of_tree (gcons b rest) = num b ∷ bytes_of_tree rest
+bytes_of_tree _ = []
+
+pub same_bytes : (bs : List ℕ) → bytes_of_tree (bytes_tree bs) ≡ bs
+same_bytes [] = refl
+same_bytes (b ∷ bs) = ap (λ (x : List ℕ). b ∷ x) (same_bytes bs)
+
+abbrev pub int_tree : ℤ → Gv
+int_tree (pos n) = gcons (gnum 0) (gnum n)
+int_tree (negsuc n) = gcons (gnum 1) (gnum n)
+
+abbrev pub int_of_tree : Gv → ℤ
+int_of_tree (gcons sign n) = if num sign == 0 then pos (num n) else negsuc (num n)
+int_of_tree _ = pos 0
+
+pub same_int : (z : ℤ) → int_of_tree (int_tree z) ≡ z
+same_int (pos n) = refl
+same_int (negsuc n) = refl
+
+abbrev pub labels_tree : List (ℤ × List ℕ) → Gv
+labels_tree [] = gnil
+labels_tree (l ∷ labels) = gcons (gcons (int_tree l.0) (bytes_tree l.1)) (labels_tree labels)
+
+abbrev pub labels_of_tree : Gv → List (ℤ × List ℕ)
+labels_of_tree (gcons (gcons value name) rest) = (int_of_tree value, bytes_of_tree name) ∷ labels_of_tree rest
+labels_of_tree _ = []
+
+pub same_labels : (labels : List (ℤ × List ℕ)) → labels_of_tree (labels_tree labels) ≡ labels
+same_labels [] = refl
+same_labels (l ∷ labels) =
+    both (λ (x : ℤ × List ℕ) (y : List (ℤ × List ℕ)). x ∷ y) (both (λ (z : ℤ) (n : List ℕ). (z, n)) (same_int l.0) (same_bytes l.1)) (same_labels labels)
+
 -- ---- trees of forms
 
 abbrev pub node : ℕ → Gv → Gv → Gv → Gv
@@ -85,14 +140,17 @@ node tag a b c = gcons (gnum tag) (gcons a (gcons b c))
 abbrev mutual
   pub form_tree : Form → Gv
   form_tree bool = node 0 gnil gnil gnil
-  form_tree (unsigned size) = node 1 (gnum (size_number size)) gnil gnil
-  form_tree (signed size) = node 2 (gnum (size_number size)) gnil gnil
+  form_tree (unsigned order size) = node 1 (gnum (size_number size)) (gnum (order_number order)) gnil
+  form_tree (signed order size) = node 2 (gnum (size_number size)) (gnum (order_number order)) gnil
   form_tree (string encoding width) = node 3 (gnum (encoding_number encoding)) (gnum (width_number width)) gnil
   form_tree (array width n f) = node 4 (gnum (width_number width)) (gnum n) (form_tree f)
-  form_tree (fixed n f) = node 5 (gnum n) gnil (form_tree f)
+  form_tree (fixed width n f) = node 5 (gnum n) (gnum (width_number_or width)) (form_tree f)
   form_tree («struct» width fs) = node 6 (gnum (width_number_or width)) gnil (forms_tree fs)
-  form_tree (union vs) = node 7 gnil gnil (variants_tree vs)
+  form_tree (union width type vs) = node 7 (gnum (width_number width)) (gnum (width_number type)) (variants_tree vs)
   form_tree (tagged width ms) = node 8 (gnum (width_number width)) gnil (members_tree ms)
+  form_tree (padded encoding n) = node 9 (gnum (encoding_number encoding)) (gnum n) gnil
+  form_tree (named n f) = node 10 (bytes_tree n) gnil (form_tree f)
+  form_tree (enumerated f labels) = node 11 (labels_tree labels) gnil (form_tree f)
 
   pub forms_tree : Forms → Gv
   forms_tree no_forms = gnil
@@ -110,14 +168,17 @@ abbrev mutual
   pub form_of_tree : Gv → Form
   form_of_tree (gcons (gnum tag) (gcons a (gcons b c))) =
       if tag == 0 then bool
-      else if tag == 1 then unsigned (numbered_size (num a))
-      else if tag == 2 then signed (numbered_size (num a))
+      else if tag == 1 then unsigned (numbered_order (num b)) (numbered_size (num a))
+      else if tag == 2 then signed (numbered_order (num b)) (numbered_size (num a))
       else if tag == 3 then string (numbered_encoding (num a)) (numbered_width (num b))
       else if tag == 4 then array (numbered_width (num a)) (num b) (form_of_tree c)
-      else if tag == 5 then fixed (num a) (form_of_tree c)
+      else if tag == 5 then fixed (numbered_width_or (num b)) (num a) (form_of_tree c)
       else if tag == 6 then «struct» (numbered_width_or (num a)) (forms_of_tree c)
-      else if tag == 7 then union (variants_of_tree c)
-      else tagged (numbered_width (num a)) (members_of_tree c)
+      else if tag == 7 then union (numbered_width (num a)) (numbered_width (num b)) (variants_of_tree c)
+      else if tag == 8 then tagged (numbered_width (num a)) (members_of_tree c)
+      else if tag == 9 then padded (numbered_encoding (num a)) (num b)
+      else if tag == 10 then named (bytes_of_tree a) (form_of_tree c)
+      else enumerated (form_of_tree c) (labels_of_tree a)
   form_of_tree _ = bool
 
   pub forms_of_tree : Gv → Forms
@@ -132,19 +193,19 @@ abbrev mutual
   members_of_tree (gcons n (gcons o (gcons a b))) = member_then (num n) (numbered_bit (num o)) (form_of_tree a) (members_of_tree b)
   members_of_tree _ = no_members
 
-both : {A B C : Type 0} (f : A → B → C) {a c : A} {b d : B} → a ≡ c → b ≡ d → f a b ≡ f c d
-both f {c = c} {b = b} p q = ap (λ x. f x b) p ∙ ap (f c) q
-
 mutual
   pub same_form : (f : Form) → form_of_tree (form_tree f) ≡ f
   same_form bool = refl
-  same_form (unsigned size) = ap unsigned (same_size size)
-  same_form (signed size) = ap signed (same_size size)
+  same_form (unsigned order size) = both unsigned (same_order order) (same_size size)
+  same_form (signed order size) = both signed (same_order order) (same_size size)
+  same_form (padded encoding n) = ap (λ e. padded e n) (same_encoding encoding)
+  same_form (named n f) = both named (same_bytes n) (same_form f)
+  same_form (enumerated f labels) = both enumerated (same_form f) (same_labels labels)
   same_form (string encoding width) = both string (same_encoding encoding) (same_width width)
   same_form (array width n f) = both (λ w g. array w n g) (same_width width) (same_form f)
-  same_form (fixed n f) = ap (fixed n) (same_form f)
+  same_form (fixed width n f) = both (λ w g. fixed w n g) (same_width_or width) (same_form f)
   same_form («struct» width fs) = both «struct» (same_width_or width) (same_forms fs)
-  same_form (union vs) = ap union (same_variants vs)
+  same_form (union width type vs) = ap (λ w. union w (numbered_width (width_number type)) (variants_of_tree (variants_tree vs))) (same_width width) ∙ both (union width) (same_width type) (same_variants vs)
   same_form (tagged width ms) = both tagged (same_width width) (same_members ms)
 
   pub same_forms : (fs : Forms) → forms_of_tree (forms_tree fs) ≡ fs

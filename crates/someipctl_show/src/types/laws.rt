@@ -2,12 +2,8 @@
 //! nothing.
 ghost use Rattle.std.specs.Prelude.{◌≡◌, true, false, codes, [], ◌∷◌, Some, None};
 ghost use Rattle.toml.specs.Data.{Data};
-ghost use Rattle.someip_payload_values.specs.declared.value.Value.{Value};
-ghost use Rattle.someip_payload_values.specs.View.{data_of};
-ghost use Rattle.someip_payload_values.specs.ValueText.{value_text};
 ghost use Rattle.someip_wire.specs.declared.header.MessageType.TheVariants.{Notification, Request, TpNotification};
-ghost use Rattle.someipctl_show.specs.types.DataText.{data_text};
-ghost use Rattle.someipctl_show.specs.types.Examples.{speed_of, speed_types, message_with, event_with, keyed, file_with, speed_text, line};
+ghost use Rattle.someipctl_show.specs.types.Examples.{speed_of, speed_types, named_types, message_with, event_with, keyed, file_with, speed_text, line};
 ghost use Rattle.someipctl_show.specs.types.GoodTypes.{has_clash, is_label};
 ghost use Rattle.someipctl_show.specs.types.Keys.{kind_of_word};
 ghost use Rattle.someipctl_show.specs.types.Says.{TextSays, tree_of};
@@ -15,13 +11,9 @@ ghost use Rattle.someipctl_show.specs.types.Tables.{has_unknown_key};
 ghost use Rattle.someipctl_show.specs.types.Types.{TypesValue};
 ghost use Rattle.someipctl_show.specs.types.ValueLine.{value_line, has_value_fault};
 
-/// The text of a value is that of what it says, wherever it lies in memory.
-pub fn a_value_has_the_text_of_what_it_says()
-    ensures { (value : Value) → value_text value ≡ data_text (data_of value) }
-{}
-
 /// The line of an event of datagram 3, in which it begins at the place 19: its value, where that takes
-/// all bytes of the payload or some, and a fault, whose place counts in the datagram.
+/// all bytes of the payload or some, and a fault, whose place counts in the datagram. A member stands
+/// behind its name, and a number is told by its name, where it has one.
 pub fn what_lines_say()
     ensures value { value_line speed_types 3 19 (event_with (0 ∷ 42 ∷ 7 ∷ []))
         ≡ codes "3 value speed (42,7)\n" }
@@ -31,6 +23,10 @@ pub fn what_lines_say()
         ≡ codes "3 value fault Truncated at 37\n" }
     ensures nameless { value_line (speed_of Notification None ∷ []) 3 19 (event_with (0 ∷ 42 ∷ 7 ∷ []))
         ≡ codes "3 value (42,7)\n" }
+    ensures named { value_line named_types 3 19 (event_with (0 ∷ 42 ∷ 3 ∷ []))
+        ≡ codes "3 value speed (speed=42,gear=D)\n" }
+    ensures unnamed { value_line named_types 3 19 (event_with (0 ∷ 42 ∷ 4 ∷ []))
+        ≡ codes "3 value speed (speed=42,gear=4)\n" }
     ensures good { has_value_fault speed_types (event_with (0 ∷ 42 ∷ 7 ∷ 9 ∷ [])) ≡ false }
     ensures bad { has_value_fault speed_types (event_with (0 ∷ 42 ∷ [])) ≡ true }
 {}

@@ -13,7 +13,7 @@ ghost use Rattle.someipctl_show.specs.types.ValueLine.{name_text, used_text, rea
 ghost use Rattle.someipctl_show.specs.types.Views.{typed_view};
 
 use crate::types::typed_message::TypedMessage;
-use someip_payload::{PayloadError, Value, decode};
+use someip_payload::{PayloadError, Told, decode};
 use someip_wire::Header;
 use std::alloc::{AllocError, Global};
 
@@ -35,7 +35,11 @@ pub(crate) fn put_payload_line(
 {
     match decode(alloc, &table.shape, payload) {
         Ok((value, used)) => {
-            put_read_line(text, k, table.name.as_ref(), &value, used, payload.len())?;
+            let told = Told {
+                shape: &table.shape,
+                value: &value,
+            };
+            put_read_line(text, k, table.name.as_ref(), &told, used, payload.len())?;
             Ok(false)
         }
         Err(PayloadError::OutOfMemory) => Err(AllocError),
@@ -52,17 +56,17 @@ fn put_read_line(
     text: &mut String,
     k: usize,
     name: Option<&String>,
-    value: &Value,
+    told: &Told<'_>,
     used: usize,
     all: usize,
 ) -> Result<(), AllocError>
     ensures { OnOk result (string_bytes text.new ≡ string_bytes text.old
-        ++ read_line k (option_map (λ n. string_bytes n.now) name.entry) (data_of value.now) used all) }
+        ++ read_line k (option_map (λ n. string_bytes n.now) name.entry) (form told.now.shape.now) (data_of told.now.value.now) used all) }
 {
     put_number(text, k)?;
     text.push_str(" value ")?;
     put_name(text, name)?;
-    write!(text, "{value}")?;
+    write!(text, "{told}")?;
     put_used(text, used, all)?;
     text.push_str("\n")?;
     Ok(())

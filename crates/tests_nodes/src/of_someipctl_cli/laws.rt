@@ -13,7 +13,6 @@ fn laws_hold() {
     commands::what_vector_lines_say();
     commands::messages_begin_behind_others();
     recordings::recordings_print_what_show_prints();
-    types::a_value_has_the_text_of_what_it_says();
     types::what_lines_say();
     types::what_has_no_line();
     types::what_tables_clash();

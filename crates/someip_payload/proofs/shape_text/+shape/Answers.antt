@@ -1,15 +1,20 @@
-use Rattle.std.proofs.Common.{rules, ◌≡◌, ℕ, ◌+◌, ◌-◌, ◌<◌, ◌≤◌, ◌^◌, false, List, ◌++◌, ◌∷◌, length, slice_range, codes, refl, ap, ◌∙◌, arith}
+use Rattle.std.proofs.Common.{rules, ◌≡◌, ◌+◌, ◌-◌, ◌<◌, ◌≤◌, ◌^◌, false, ◌++◌, ◌∷◌, length, slice_range, codes, string_bytes, Global, refl, sym, ap, ◌∙◌, arith}
+use Rattle.std.specs.Option.{option_map}
+use Rattle.std.proofs.lemmas.Bool.{false≢true}
 use Rattle.std.proofs.lemmas.List.{length-append}
-use Rattle.someip_payload_values.specs.declared.shape.Shape.{Bool, U8, U16, U32, U64, I8, I16, I32, I64}
-use Rattle.someip_payload_values.specs.Data.{bool, u8, u16, u32, u64, i8, i16, i32, i64}
+use Rattle.someip_payload_values.specs.declared.shape.Shape.{Bool}
+use Rattle.someip_payload_values.specs.Data.{bool, named}
 use Rattle.someip_payload_values.specs.Check.{depth}
-use Rattle.someip_payload.specs.ShapeText.{repeated_text, width_text, bool_text, u8_text, u16_text, u32_text, u64_text, i8_text, i16_text, i32_text, i64_text}
-use Rattle.someip_payload.specs.Words.{word_text}
-use Rattle.someip_payload.proofs.Converse.{by_word, plain, word_there, behind_piece, not_read, passed_on}
-use Rattle.someip_payload.proofs.ConverseParts.{inner, array_is, struct_is, union_is, tagged_is, stops_repeated, stops_bracket, stops_end, no_digit_comma, after_width, after_open, after_count, after_comma, length-repeated, after_bracket, within_more}
-use Rattle.someip_payload_values.proofs.Shapes.{form-Bool, form-U8, form-U16, form-U32, form-U64, form-I8, form-I16, form-I32, form-I64, form-Array, form-Fixed, form-Struct, form-Union, form-Tagged}
-use Rattle.someip_payload.proofs.ShapePieces.{plain_shape, behind_word, array_shape, fixed_shape, struct_shape, union_shape, tagged_shape, repeated_piece, one_member-made}
-use Rattle.someip_payload.proofs.TaggedMembers.{number_read, after_number, after_mark, member_piece, variant_piece}
+use Rattle.someip_payload_values.specs.View.{form, all_variants}
+use Rattle.someip_payload.specs.ShapeText.{tagged_member_text, name_text, with_name, repeated_text, width_text, widths_text, bool_text, integer_text}
+use Rattle.someip_payload.specs.Words.{word_text, integer_word, integer_form}
+use Rattle.someip_payload.proofs.Converse.{integer_is, by_word, plain, word_there, not_read, passed_on, memory_of}
+use Rattle.someip_payload.proofs.Places.{behind_piece}
+use Rattle.someip_payload.proofs.ConverseParts.{inner, array_is, fixed_is, struct_is, union_is, tagged_is, stops_repeated, stops_bracket, stops_end, no_digit_comma, after_width, after_widths, after_open, after_count, after_comma, length-repeated, after_bracket, within_more, integer_depth, union_depth}
+use Rattle.someip_payload.proofs.MemberTexts.{tagged_parts, depth-with_name, with_colon, without_colon, byte_and_rest}
+use Rattle.someip_payload_values.proofs.Shapes.{form-Bool, form-Array, form-Struct, form-Tagged, some_depth}
+use Rattle.someip_payload.proofs.ShapePieces.{plain_shape, behind_word, array_shape, fixed_shape, struct_shape, union_shape, tagged_shape, repeated_piece, named_shape, plain_member, tagged_shape_found, tagged_depth, one_member-made}
+use Rattle.someip_payload.proofs.TaggedMembers.{tagged_there, tagged_first, number_read, after_number, after_mark, member_piece, variant_piece}
 use Rattle.someip_payload.proofs.Members.{members, variants, tagged_members}
 use Rattle.someip_payload.proofs.OneAfterOther.{none_read, not_one, one_more, all_found, all_within, all_only, no_bracket}
 use Rattle.someip_payload.proofs.shape_text.+shape.Goals as goal
@@ -19,35 +24,16 @@ use Rattle.someip_payload.proofs.shape_text.+shape.Goals as goal
 pub shape_at-returns-in-Bool-clause-found : goal.shape_at-returns-in-Bool-clause-found
 shape_at-returns-in-Bool-clause-found t c = plain_shape Bool bool _ _ form-Bool bool_text (c.in_ok-word.ensures.found ∙ ap word_text c.in-Bool.is)
 
-pub shape_at-returns-in-U8-clause-found : goal.shape_at-returns-in-U8-clause-found
-shape_at-returns-in-U8-clause-found t c = plain_shape U8 u8 _ _ form-U8 u8_text (c.in_ok-word.ensures.found ∙ ap word_text c.in-U8.is)
+pub shape_at-returns-in-Integer-clause-found : goal.shape_at-returns-in-Integer-clause-found
+shape_at-returns-in-Integer-clause-found t c =
+    let i = c.in-Integer.integer in
+    plain_shape c.integer_shape.result (integer_form i) (integer_word i) _ c.integer_shape.ensures (integer_text (integer_form i) (integer_word i) (integer_is i)) (c.in_ok-word.ensures.found ∙ ap word_text c.in-Integer.is)
 
-pub shape_at-returns-in-U16-clause-found : goal.shape_at-returns-in-U16-clause-found
-shape_at-returns-in-U16-clause-found t c = plain_shape U16 u16 _ _ form-U16 u16_text (c.in_ok-word.ensures.found ∙ ap word_text c.in-U16.is)
+pub shape_at-returns-in-Text-clause-found : goal.shape_at-returns-in-Text-clause-found
+shape_at-returns-in-Text-clause-found t c = behind_word c.string_at.result _ _ _ _ _ c.in-Text.is c.in_ok-word.ensures.end.0 c.in_ok-word.ensures.found c.string_at.ensures.end c.string_at.ensures.found
 
-pub shape_at-returns-in-U32-clause-found : goal.shape_at-returns-in-U32-clause-found
-shape_at-returns-in-U32-clause-found t c = plain_shape U32 u32 _ _ form-U32 u32_text (c.in_ok-word.ensures.found ∙ ap word_text c.in-U32.is)
-
-pub shape_at-returns-in-U64-clause-found : goal.shape_at-returns-in-U64-clause-found
-shape_at-returns-in-U64-clause-found t c = plain_shape U64 u64 _ _ form-U64 u64_text (c.in_ok-word.ensures.found ∙ ap word_text c.in-U64.is)
-
-pub shape_at-returns-in-I8-clause-found : goal.shape_at-returns-in-I8-clause-found
-shape_at-returns-in-I8-clause-found t c = plain_shape I8 i8 _ _ form-I8 i8_text (c.in_ok-word.ensures.found ∙ ap word_text c.in-I8.is)
-
-pub shape_at-returns-in-I16-clause-found : goal.shape_at-returns-in-I16-clause-found
-shape_at-returns-in-I16-clause-found t c = plain_shape I16 i16 _ _ form-I16 i16_text (c.in_ok-word.ensures.found ∙ ap word_text c.in-I16.is)
-
-pub shape_at-returns-in-I32-clause-found : goal.shape_at-returns-in-I32-clause-found
-shape_at-returns-in-I32-clause-found t c = plain_shape I32 i32 _ _ form-I32 i32_text (c.in_ok-word.ensures.found ∙ ap word_text c.in-I32.is)
-
-pub shape_at-returns-in-I64-clause-found : goal.shape_at-returns-in-I64-clause-found
-shape_at-returns-in-I64-clause-found t c = plain_shape I64 i64 _ _ form-I64 i64_text (c.in_ok-word.ensures.found ∙ ap word_text c.in-I64.is)
-
-pub shape_at-returns-in-Utf8-clause-found : goal.shape_at-returns-in-Utf8-clause-found
-shape_at-returns-in-Utf8-clause-found t c = behind_word c.string_at.result _ _ _ _ _ c.in-Utf8.is c.in_ok-word.ensures.end.0 c.in_ok-word.ensures.found c.string_at.ensures.end c.string_at.ensures.found
-
-pub shape_at-returns-in-Utf16-clause-found : goal.shape_at-returns-in-Utf16-clause-found
-shape_at-returns-in-Utf16-clause-found t c = behind_word c.string_at-in-Utf16.result _ _ _ _ _ c.in-Utf16.is c.in_ok-word.ensures.end.0 c.in_ok-word.ensures.found c.string_at-in-Utf16.ensures.end c.string_at-in-Utf16.ensures.found
+pub shape_at-returns-in-FixedText-clause-found : goal.shape_at-returns-in-FixedText-clause-found
+shape_at-returns-in-FixedText-clause-found t c = behind_word c.padded_at.result _ _ _ _ _ c.in-FixedText.is c.in_ok-word.ensures.end.0 c.in_ok-word.ensures.found c.padded_at.ensures.end c.padded_at.ensures.found
 
 pub shape_at-returns-in-Array-clause-found : goal.shape_at-returns-in-Array-clause-found
 shape_at-returns-in-Array-clause-found t c = behind_word c.array_at.result _ _ _ _ _ c.in-Array.is c.in_ok-word.ensures.end.0 c.in_ok-word.ensures.found c.array_at.ensures.end c.array_at.ensures.found
@@ -70,7 +56,9 @@ array_at-returns-clause-found t c =
     array_shape c.in_ok-width.width _ _ _ _ whole.0 _ _ _ c.in_ok-width.ensures.end.0 c.in_ok-max.ensures.end.0 c.or_32.ensures c.in_ok-width.ensures.found whole.1 whole.2 whole.3
 
 pub fixed_at-returns-clause-found : goal.fixed_at-returns-clause-found
-fixed_at-returns-clause-found t c = let whole = c.in_ok-count.ensures.found in fixed_shape _ _ _ whole.0 whole.1 whole.2 whole.3
+fixed_at-returns-clause-found t c =
+    let whole = c.in_ok-count.ensures.found in
+    fixed_shape c.in_ok-width.width _ _ _ _ whole.0 _ _ _ c.in_ok-width.ensures.end.0 c.in_ok-count.ensures.end.0 c.fixed_shape.ensures c.in_ok-width.ensures.found whole.1 whole.2 whole.3
 
 pub repeated_at-returns-clause-found : goal.repeated_at-returns-clause-found
 repeated_at-returns-clause-found t c =
@@ -96,8 +84,9 @@ struct_at-returns-clause-found t c =
 pub union_at-returns-clause-found : goal.union_at-returns-clause-found
 union_at-returns-clause-found t c =
     let whole = c.in_ok-variants.ensures.found in
-    let first : c.in_ok-first.first ≡ c.args.at + 1 = c.in_ok-first.ensures.end.0 in
-    union_shape _ _ whole.0 _ _ _ (omega arith) c.in_ok-variants.ensures.end.0 c.in_ok-first.ensures.found whole.1 whole.2
+    let first : c.in_ok-first.first ≡ c.in_ok-widths.from + 1 = c.in_ok-first.ensures.end.0 in
+    union_shape c.in_ok-widths.widths _ _ _ whole.0 _ _ _ _ c.in_ok-widths.ensures.end.0 (omega arith) c.in_ok-variants.ensures.end.0 c.union_shape.ensures
+    c.in_ok-widths.ensures.found c.in_ok-first.ensures.found whole.1 whole.2
 
 pub tagged_at-returns-clause-found : goal.tagged_at-returns-clause-found
 tagged_at-returns-clause-found t c =
@@ -117,57 +106,44 @@ variant_at-returns-clause-found t c =
 pub tagged_member_at-returns-clause-found : goal.tagged_member_at-returns-clause-found
 tagged_member_at-returns-clause-found t c =
     let first : c.in_ok-first.first ≡ c.mark_at-is_optional.result.1 + 1 = c.in_ok-first.ensures.end.0 in
-    let number : c.args.at < c.in_ok-number.behind = c.in_ok-number.ensures.end.0 in
+    let number : c.in_ok-name.from < c.in_ok-number.behind = c.in_ok-number.ensures.end.0 in
     let mark : c.in_ok-number.behind ≤ c.mark_at-is_optional.result.1 = c.mark_at-is_optional.ensures.end.0 in
     let behind : c.in_ok-first.first ≤ c.in_ok-shape.end = omega (arith, c.in_ok-shape.ensures.end.0) in
-    let made = one_member-made c.in_ok-number.number c.mark_at-is_optional.result.0 c.in_ok-shape.shape in
-    let piece = member_piece c.args.text.now c.in_ok-number.number c.mark_at-is_optional.result.0 c.args.at c.in_ok-number.behind c.mark_at-is_optional.result.1 c.in_ok-first.first c.in_ok-shape.end
+    let piece = member_piece c.args.text.now c.in_ok-number.number c.mark_at-is_optional.result.0 c.in_ok-name.from c.in_ok-number.behind c.mark_at-is_optional.result.1 c.in_ok-first.first c.in_ok-shape.end
     (omega arith) mark (omega arith) behind c.in_ok-number.ensures.found c.mark_at-is_optional.ensures.found c.in_ok-first.ensures.found in
-    rw made (slice_range c.args.text.now c.in_ok-first.first c.in_ok-shape.end, c.in_ok-number.ensures.fits, c.in_ok-shape.ensures.found, piece)
+    tagged_shape_found c.in_ok-number.number c.mark_at-is_optional.result.0 c.in_ok-named.named (option_map string_bytes c.in_ok-name.name) (form c.in_ok-shape.shape) c.args.text.now
+    (slice_range c.args.text.now c.in_ok-first.first c.in_ok-shape.end) c.args.at c.in_ok-name.from c.in_ok-shape.end c.in_ok-name.ensures.end.0 (omega arith) c.in_ok-named.ensures.named
+    c.in_ok-name.ensures.found.0 c.in_ok-name.ensures.found.1 c.in_ok-number.ensures.fits c.in_ok-shape.ensures.found piece
 
-pub members_at-returns-else-has_comma-clause-found : goal.members_at-returns-else-has_comma-clause-found
-members_at-returns-else-has_comma-clause-found t c =
+pub named_at-returns-clause-found : goal.named_at-returns-clause-found
+named_at-returns-clause-found t c =
+    let first : c.in_ok-name.first ≡ c.args.name_end + 1 = c.in_ok-name.ensures.end.0 in
+    let behind : c.in_ok-name.first ≤ c.in_ok-shape.end = omega (arith, c.in_ok-shape.ensures.end.0) in
+    named_shape (string_bytes c.in_ok-name.name) (form c.in_ok-shape.shape) _ c.args.text.now c.args.at c.args.name_end c.in_ok-name.first c.in_ok-shape.end
+    (omega (arith, c.requires.place.0)) (omega arith) behind c.in_ok-with_name.ensures.named c.in_ok-name.ensures.found c.requires.name c.in_ok-name.ensures.colon c.in_ok-shape.ensures.found
+
+pub members_at-returns-else-has_byte-clause-found : goal.members_at-returns-else-has_byte-clause-found
+members_at-returns-else-has_byte-clause-found t c =
     all_found members c.loop-items.invariant c.in_ok-item.item c.in_ok-item.end _ (search rules) c.in_ok-end.end c.in_ok-item.ensures.end.0 c.in_ok-item.ensures.found c.in_ok-end.ensures.end.0 c.in_ok-end.ensures.found
 
-pub variants_at-returns-else-has_comma-clause-found : goal.variants_at-returns-else-has_comma-clause-found
-variants_at-returns-else-has_comma-clause-found t c =
+pub variants_at-returns-else-has_byte-clause-found : goal.variants_at-returns-else-has_byte-clause-found
+variants_at-returns-else-has_byte-clause-found t c =
     all_found variants c.loop-items.invariant c.in_ok-item.item c.in_ok-item.end _ (search rules) c.in_ok-end.end c.in_ok-item.ensures.end.0 c.in_ok-item.ensures.found c.in_ok-end.ensures.end.0 c.in_ok-end.ensures.found
 
-pub tagged_members_at-returns-else-has_comma-clause-found : goal.tagged_members_at-returns-else-has_comma-clause-found
-tagged_members_at-returns-else-has_comma-clause-found t c =
+pub tagged_members_at-returns-else-has_byte-clause-found : goal.tagged_members_at-returns-else-has_byte-clause-found
+tagged_members_at-returns-else-has_byte-clause-found t c =
     all_found tagged_members c.loop-items.invariant c.in_ok-item.item c.in_ok-item.end _ (search rules) c.in_ok-end.end c.in_ok-item.ensures.end.0 c.in_ok-item.ensures.found c.in_ok-end.ensures.end.0 c.in_ok-end.ensures.found
 
 -- ---- how deep it lies
 
-pub shape_at-returns-in-U8-clause-within : goal.shape_at-returns-in-U8-clause-within
-shape_at-returns-in-U8-clause-within t c = rw form-U8 (omega (arith, c.if-left-eq0.false))
+pub shape_at-returns-in-Integer-clause-within : goal.shape_at-returns-in-Integer-clause-within
+shape_at-returns-in-Integer-clause-within t c = rw c.integer_shape.ensures (omega (arith, integer_depth c.in-Integer.integer, c.if-left-eq0.false))
 
-pub shape_at-returns-in-U16-clause-within : goal.shape_at-returns-in-U16-clause-within
-shape_at-returns-in-U16-clause-within t c = rw form-U16 (omega (arith, c.if-left-eq0.false))
+pub shape_at-returns-in-Text-clause-within : goal.shape_at-returns-in-Text-clause-within
+shape_at-returns-in-Text-clause-within t c = within_more c.string_at.result 1 c.args.left (omega (arith, c.if-left-eq0.false)) c.string_at.ensures.within
 
-pub shape_at-returns-in-U32-clause-within : goal.shape_at-returns-in-U32-clause-within
-shape_at-returns-in-U32-clause-within t c = rw form-U32 (omega (arith, c.if-left-eq0.false))
-
-pub shape_at-returns-in-U64-clause-within : goal.shape_at-returns-in-U64-clause-within
-shape_at-returns-in-U64-clause-within t c = rw form-U64 (omega (arith, c.if-left-eq0.false))
-
-pub shape_at-returns-in-I8-clause-within : goal.shape_at-returns-in-I8-clause-within
-shape_at-returns-in-I8-clause-within t c = rw form-I8 (omega (arith, c.if-left-eq0.false))
-
-pub shape_at-returns-in-I16-clause-within : goal.shape_at-returns-in-I16-clause-within
-shape_at-returns-in-I16-clause-within t c = rw form-I16 (omega (arith, c.if-left-eq0.false))
-
-pub shape_at-returns-in-I32-clause-within : goal.shape_at-returns-in-I32-clause-within
-shape_at-returns-in-I32-clause-within t c = rw form-I32 (omega (arith, c.if-left-eq0.false))
-
-pub shape_at-returns-in-I64-clause-within : goal.shape_at-returns-in-I64-clause-within
-shape_at-returns-in-I64-clause-within t c = rw form-I64 (omega (arith, c.if-left-eq0.false))
-
-pub shape_at-returns-in-Utf8-clause-within : goal.shape_at-returns-in-Utf8-clause-within
-shape_at-returns-in-Utf8-clause-within t c = within_more c.string_at.result 1 c.args.left (omega (arith, c.if-left-eq0.false)) c.string_at.ensures.within
-
-pub shape_at-returns-in-Utf16-clause-within : goal.shape_at-returns-in-Utf16-clause-within
-shape_at-returns-in-Utf16-clause-within t c = within_more c.string_at-in-Utf16.result 1 c.args.left (omega (arith, c.if-left-eq0.false)) c.string_at-in-Utf16.ensures.within
+pub shape_at-returns-in-FixedText-clause-within : goal.shape_at-returns-in-FixedText-clause-within
+shape_at-returns-in-FixedText-clause-within t c = within_more c.padded_at.result 1 c.args.left (omega (arith, c.if-left-eq0.false)) c.padded_at.ensures.within
 
 pub shape_at-returns-in-Array-clause-within : goal.shape_at-returns-in-Array-clause-within
 shape_at-returns-in-Array-clause-within t c = within_more c.array_at.result (c.args.left - 1 + 1) c.args.left (omega (arith, c.if-left-eq0.false)) c.array_at.ensures.within
@@ -188,13 +164,18 @@ pub array_at-returns-clause-within : goal.array_at-returns-clause-within
 array_at-returns-clause-within t c = rw (form-Array c.or_32.result c.in_ok-max.max c.in_ok-max.element) (omega (arith, c.in_ok-max.ensures.within))
 
 pub fixed_at-returns-clause-within : goal.fixed_at-returns-clause-within
-fixed_at-returns-clause-within t c = rw (form-Fixed c.in_ok-count.count c.in_ok-count.element) (omega (arith, c.in_ok-count.ensures.within))
+fixed_at-returns-clause-within t c = rw c.fixed_shape.ensures (omega (arith, c.in_ok-count.ensures.within))
 
 pub struct_at-returns-clause-within : goal.struct_at-returns-clause-within
 struct_at-returns-clause-within t c = rw (form-Struct c.in_ok-width.width c.in_ok-members.members) (omega (arith, c.in_ok-members.ensures.within))
 
 pub union_at-returns-clause-within : goal.union_at-returns-clause-within
-union_at-returns-clause-within t c = rw (form-Union c.in_ok-variants.variants) (omega (arith, c.in_ok-variants.ensures.within))
+union_at-returns-clause-within t c =
+    rw c.union_shape.ensures (omega (arith, union_depth c.in_ok-widths.widths (all_variants c.in_ok-variants.variants.items), c.in_ok-variants.ensures.within))
+
+pub tagged_member_at-returns-clause-within : goal.tagged_member_at-returns-clause-within
+tagged_member_at-returns-clause-within t c =
+    tagged_depth c.in_ok-number.number c.mark_at-is_optional.result.0 c.in_ok-named.named (option_map string_bytes c.in_ok-name.name) (form c.in_ok-shape.shape) c.args.left c.in_ok-named.ensures.named c.in_ok-shape.ensures.within
 
 pub tagged_at-returns-clause-within : goal.tagged_at-returns-clause-within
 tagged_at-returns-clause-within t c = rw (form-Tagged c.or_32.result c.in_ok-members.members) (omega (arith, c.in_ok-members.ensures.within))
@@ -202,52 +183,34 @@ tagged_at-returns-clause-within t c = rw (form-Tagged c.or_32.result c.in_ok-mem
 pub repeated_at-returns-clause-within : goal.repeated_at-returns-clause-within
 repeated_at-returns-clause-within t c = rw c.in_ok-new.ensures.ok c.in_ok-element.ensures.within
 
-pub members_at-returns-else-has_comma-clause-within : goal.members_at-returns-else-has_comma-clause-within
-members_at-returns-else-has_comma-clause-within t c = all_within members c.loop-items.invariant c.in_ok-item.item c.in_ok-item.end _ (search rules) c.in_ok-item.ensures.within
+pub members_at-returns-else-has_byte-clause-within : goal.members_at-returns-else-has_byte-clause-within
+members_at-returns-else-has_byte-clause-within t c = all_within members c.loop-items.invariant c.in_ok-item.item c.in_ok-item.end _ (search rules) c.in_ok-item.ensures.within
 
-pub variants_at-returns-else-has_comma-clause-within : goal.variants_at-returns-else-has_comma-clause-within
-variants_at-returns-else-has_comma-clause-within t c = all_within variants c.loop-items.invariant c.in_ok-item.item c.in_ok-item.end _ (search rules) c.in_ok-item.ensures.within
+pub variants_at-returns-else-has_byte-clause-within : goal.variants_at-returns-else-has_byte-clause-within
+variants_at-returns-else-has_byte-clause-within t c = all_within variants c.loop-items.invariant c.in_ok-item.item c.in_ok-item.end _ (search rules) c.in_ok-item.ensures.within
 
-pub tagged_members_at-returns-else-has_comma-clause-within : goal.tagged_members_at-returns-else-has_comma-clause-within
-tagged_members_at-returns-else-has_comma-clause-within t c = all_within tagged_members c.loop-items.invariant c.in_ok-item.item c.in_ok-item.end _ (search rules) c.in_ok-item.ensures.within
+pub tagged_members_at-returns-else-has_byte-clause-within : goal.tagged_members_at-returns-else-has_byte-clause-within
+tagged_members_at-returns-else-has_byte-clause-within t c = all_within tagged_members c.loop-items.invariant c.in_ok-item.item c.in_ok-item.end _ (search rules) c.in_ok-item.ensures.within
 
 -- ---- each text of a shape is read
 
 pub shape_at-returns-in_err-word-clause-only : goal.shape_at-returns-in_err-word-clause-only
 shape_at-returns-in_err-word-clause-only t c = λ f front rest is is_text deep stops.
-    let there = word_there c.args.text.now front rest c.args.at f is is_text in
-    let bad = c.in_err-word.ensures.only there.0 there.1 there.2 in
+    let there = word_there c.args.text.now front rest c.args.at f is is_text stops in
+    let bad = c.in_err-word.ensures.only there.0 there.1 there.2 there.3 in
     absurd (not_read _ _ bad)
 
-pub shape_at-returns-in-U8-clause-only : goal.shape_at-returns-in-U8-clause-only
-shape_at-returns-in-U8-clause-only t c = plain _ _ _ _ _ _ U8 u8 c.in-U8.is form-U8 (λ f back behind. behind) c.in_ok-word.ensures.only
+pub shape_at-returns-in-Bool-clause-only : goal.shape_at-returns-in-Bool-clause-only
+shape_at-returns-in-Bool-clause-only t c = plain _ _ _ _ _ _ Bool bool c.in-Bool.is form-Bool (λ f back behind. behind) c.in_ok-word.ensures.only
 
-pub shape_at-returns-in-U16-clause-only : goal.shape_at-returns-in-U16-clause-only
-shape_at-returns-in-U16-clause-only t c = plain _ _ _ _ _ _ U16 u16 c.in-U16.is form-U16 (λ f back behind. behind) c.in_ok-word.ensures.only
+pub shape_at-returns-in-Integer-clause-only : goal.shape_at-returns-in-Integer-clause-only
+shape_at-returns-in-Integer-clause-only t c = plain _ _ _ _ _ _ c.integer_shape.result (integer_form c.in-Integer.integer) c.in-Integer.is c.integer_shape.ensures (λ f back behind. behind) c.in_ok-word.ensures.only
 
-pub shape_at-returns-in-U32-clause-only : goal.shape_at-returns-in-U32-clause-only
-shape_at-returns-in-U32-clause-only t c = plain _ _ _ _ _ _ U32 u32 c.in-U32.is form-U32 (λ f back behind. behind) c.in_ok-word.ensures.only
+pub shape_at-returns-in-Text-clause-only : goal.shape_at-returns-in-Text-clause-only
+shape_at-returns-in-Text-clause-only t c = by_word _ _ _ _ _ _ _ c.in-Text.is c.in_ok-word.ensures.only (λ f back rest there behind deep stops. c.string_at.ensures.only f back rest there behind stops)
 
-pub shape_at-returns-in-U64-clause-only : goal.shape_at-returns-in-U64-clause-only
-shape_at-returns-in-U64-clause-only t c = plain _ _ _ _ _ _ U64 u64 c.in-U64.is form-U64 (λ f back behind. behind) c.in_ok-word.ensures.only
-
-pub shape_at-returns-in-I8-clause-only : goal.shape_at-returns-in-I8-clause-only
-shape_at-returns-in-I8-clause-only t c = plain _ _ _ _ _ _ I8 i8 c.in-I8.is form-I8 (λ f back behind. behind) c.in_ok-word.ensures.only
-
-pub shape_at-returns-in-I16-clause-only : goal.shape_at-returns-in-I16-clause-only
-shape_at-returns-in-I16-clause-only t c = plain _ _ _ _ _ _ I16 i16 c.in-I16.is form-I16 (λ f back behind. behind) c.in_ok-word.ensures.only
-
-pub shape_at-returns-in-I32-clause-only : goal.shape_at-returns-in-I32-clause-only
-shape_at-returns-in-I32-clause-only t c = plain _ _ _ _ _ _ I32 i32 c.in-I32.is form-I32 (λ f back behind. behind) c.in_ok-word.ensures.only
-
-pub shape_at-returns-in-I64-clause-only : goal.shape_at-returns-in-I64-clause-only
-shape_at-returns-in-I64-clause-only t c = plain _ _ _ _ _ _ I64 i64 c.in-I64.is form-I64 (λ f back behind. behind) c.in_ok-word.ensures.only
-
-pub shape_at-returns-in-Utf8-clause-only : goal.shape_at-returns-in-Utf8-clause-only
-shape_at-returns-in-Utf8-clause-only t c = by_word _ _ _ _ _ _ _ c.in-Utf8.is c.in_ok-word.ensures.only (λ f back rest there behind deep stops. c.string_at.ensures.only f back rest there behind stops)
-
-pub shape_at-returns-in-Utf16-clause-only : goal.shape_at-returns-in-Utf16-clause-only
-shape_at-returns-in-Utf16-clause-only t c = by_word _ _ _ _ _ _ _ c.in-Utf16.is c.in_ok-word.ensures.only (λ f back rest there behind deep stops. c.string_at-in-Utf16.ensures.only f back rest there behind stops)
+pub shape_at-returns-in-FixedText-clause-only : goal.shape_at-returns-in-FixedText-clause-only
+shape_at-returns-in-FixedText-clause-only t c = by_word _ _ _ _ _ _ _ c.in-FixedText.is c.in_ok-word.ensures.only (λ f back rest there behind deep stops. c.padded_at.ensures.only f back rest there behind)
 
 pub shape_at-returns-in-Array-clause-only : goal.shape_at-returns-in-Array-clause-only
 shape_at-returns-in-Array-clause-only t c = inner _ _ _ _ _ _ c.array_at.result c.in-Array.is c.in_ok-word.ensures.only c.array_at.ensures.only
@@ -276,6 +239,21 @@ array_at-returns-clause-only t c = λ f back rest is behind deep.
     let inner : depth behind.2 ≤ c.args.left = omega (arith, deep, ap depth behind.6) in
     let repeated = c.in_ok-max.ensures.only behind.1 behind.2 behind.3 rest here.2 behind.4 behind.5 inner in (
       array_is c.in_ok-width.width behind.0 _ _ behind.1 c.in_ok-max.element f behind.2 c.or_32.ensures here.0 repeated.0 repeated.1 behind.6,
+      omega (arith, repeated.2, here.1, ap length behind.7, length-append (width_text behind.0) (repeated_text behind.1 behind.3)),
+    )
+
+pub fixed_at-returns-in_err-count-clause-only : goal.fixed_at-returns-in_err-count-clause-only
+fixed_at-returns-in_err-count-clause-only t c = λ f back rest is behind deep.
+    let here = after_width c.args.text.now back rest _ _ _ _ behind.0 is behind.7 (stops_repeated behind.1 behind.3 rest) c.in_ok-width.ensures.only in
+    let inner : depth behind.2 ≤ c.args.left = omega (arith, deep, ap depth behind.6) in
+    rw (passed_on _ _ c.from_residual-in_err-count.ensures.1) (c.in_err-count.ensures.only behind.1 behind.2 behind.3 rest here.2 behind.4 behind.5 inner)
+
+pub fixed_at-returns-clause-only : goal.fixed_at-returns-clause-only
+fixed_at-returns-clause-only t c = λ f back rest is behind deep.
+    let here = after_width c.args.text.now back rest _ _ _ _ behind.0 is behind.7 (stops_repeated behind.1 behind.3 rest) c.in_ok-width.ensures.only in
+    let inner : depth behind.2 ≤ c.args.left = omega (arith, deep, ap depth behind.6) in
+    let repeated = c.in_ok-count.ensures.only behind.1 behind.2 behind.3 rest here.2 behind.4 behind.5 inner in (
+      c.fixed_shape.ensures ∙ fixed_is c.in_ok-width.width behind.0 _ behind.1 f _ behind.2 here.0 repeated.0 repeated.1 behind.6,
       omega (arith, repeated.2, here.1, ap length behind.7, length-append (width_text behind.0) (repeated_text behind.1 behind.3)),
     )
 
@@ -334,10 +312,16 @@ tagged_at-returns-in_err-members-clause-only t c = λ f back rest is behind deep
     let inside = after_bracket c.args.text.now behind.2 rest c.in_ok-width.from c.in_ok-first.first here.2 c.in_ok-first.ensures.end.0 in
     rw (passed_on _ _ c.from_residual-in_err-members.ensures.1) (c.in_err-members.ensures.only behind.1 behind.2 rest inside behind.3 (omega (arith, deep, ap depth behind.4)))
 
+pub union_at-returns-in_err-first-clause-only : goal.union_at-returns-in_err-first-clause-only
+union_at-returns-in_err-first-clause-only t c = λ f back rest is behind deep.
+    let here = after_widths c.args.text.now back rest _ _ _ _ behind.0 is behind.5 (stops_bracket (behind.2 ++ codes ")") rest) c.in_ok-widths.ensures.only in
+    absurd (not_read _ _ (c.in_err-first.ensures.only _ here.2))
+
 pub union_at-returns-in_err-variants-clause-only : goal.union_at-returns-in_err-variants-clause-only
 union_at-returns-in_err-variants-clause-only t c = λ f back rest is behind deep.
-    let inside = after_bracket c.args.text.now behind.1 rest c.args.at c.in_ok-first.first (is ∙ ap (λ (x : List ℕ). x ++ rest) behind.4) c.in_ok-first.ensures.end.0 in
-    rw (passed_on _ _ c.from_residual-in_err-variants.ensures.1) (c.in_err-variants.ensures.only behind.0 behind.1 rest inside behind.2 (omega (arith, deep, ap depth behind.3)))
+    let here = after_widths c.args.text.now back rest _ _ _ _ behind.0 is behind.5 (stops_bracket (behind.2 ++ codes ")") rest) c.in_ok-widths.ensures.only in
+    let inside = after_bracket c.args.text.now behind.2 rest c.in_ok-widths.from c.in_ok-first.first here.2 c.in_ok-first.ensures.end.0 in
+    rw (passed_on _ _ c.from_residual-in_err-variants.ensures.1) (c.in_err-variants.ensures.only behind.1 behind.2 rest inside behind.3 (omega (arith, deep, ap depth behind.4, union_depth behind.0 behind.1)))
 
 pub struct_at-returns-clause-only : goal.struct_at-returns-clause-only
 struct_at-returns-clause-only t c = λ f back rest is behind deep.
@@ -359,10 +343,11 @@ tagged_at-returns-clause-only t c = λ f back rest is behind deep.
 
 pub union_at-returns-clause-only : goal.union_at-returns-clause-only
 union_at-returns-clause-only t c = λ f back rest is behind deep.
-    let inside = after_bracket c.args.text.now behind.1 rest c.args.at c.in_ok-first.first (is ∙ ap (λ (x : List ℕ). x ++ rest) behind.4) c.in_ok-first.ensures.end.0 in
-    let read = c.in_ok-variants.ensures.only behind.0 behind.1 rest inside behind.2 (omega (arith, deep, ap depth behind.3)) in (
-      union_is c.in_ok-variants.variants f behind.0 read.0 behind.3,
-      omega (arith, read.1, c.in_ok-first.ensures.end.0, ap length behind.4, length-append behind.1 (codes ")")),
+    let here = after_widths c.args.text.now back rest _ _ _ _ behind.0 is behind.5 (stops_bracket (behind.2 ++ codes ")") rest) c.in_ok-widths.ensures.only in
+    let inside = after_bracket c.args.text.now behind.2 rest c.in_ok-widths.from c.in_ok-first.first here.2 c.in_ok-first.ensures.end.0 in
+    let read = c.in_ok-variants.ensures.only behind.1 behind.2 rest inside behind.3 (omega (arith, deep, ap depth behind.4, union_depth behind.0 behind.1)) in (
+      c.union_shape.ensures ∙ union_is c.in_ok-widths.widths behind.0 f _ behind.1 here.0 read.0 behind.4,
+      omega (arith, read.1, here.1, c.in_ok-first.ensures.end.0, ap length behind.5, length-append (widths_text behind.0) (40 ∷ (behind.2 ++ codes ")")), length-append behind.2 (codes ")")),
     )
 
 pub variant_at-returns-in_err-number-clause-only : goal.variant_at-returns-in_err-number-clause-only
@@ -387,28 +372,104 @@ variant_at-returns-clause-only t c = λ v front rest is own deep stops.
     let read = c.in_ok-shape.ensures.only v.form own.0 rest inside own.2 deep stops in
     (λ i. record { number = here.0 i; form = read.0 i }, omega (arith, read.1, c.in_ok-first.ensures.end.0, here.2))
 
+pub tagged_member_at-returns-in_err-name-clause-only : goal.tagged_member_at-returns-in_err-name-clause-only
+tagged_member_at-returns-in_err-name-clause-only t c = λ m front rest is is_member deep stops.
+    let own = tagged_parts m.id m.optional m.form front is_member in
+    let there = tagged_there c.args.text.now front rest own.0 m.id m.optional own.2 c.args.at is own.7 in
+    let memory = memory_of (option_map (string_bytes {Z = Global})) own.0 (c.args.at + length (name_text own.0)) c.in_err-name.field-0.0
+    (c.in_err-name.ensures.only own.0 (tagged_member_text m.id m.optional own.2 ++ rest) there own.3 (tagged_first m.id m.optional own.2 rest own.4)) in
+    rw (passed_on _ _ c.from_residual.ensures.1, memory) tt
+
+pub tagged_member_at-returns-in_err-number-clause-only : goal.tagged_member_at-returns-in_err-number-clause-only
+tagged_member_at-returns-in_err-number-clause-only t c = λ m front rest is is_member deep stops.
+    let own = tagged_parts m.id m.optional m.form front is_member in
+    let there = tagged_there c.args.text.now front rest own.0 m.id m.optional own.2 c.args.at is own.7 in
+    let name = c.in_ok-name.ensures.only own.0 (tagged_member_text m.id m.optional own.2 ++ rest) there own.3 (tagged_first m.id m.optional own.2 rest own.4) in
+    let from = behind_piece c.args.text.now (name_text own.0) (tagged_member_text m.id m.optional own.2 ++ rest) c.args.at c.in_ok-name.from there name.1 in
+    absurd (not_read _ _ (number_read c.args.text.now (tagged_member_text m.id m.optional own.2) rest own.2 c.in_ok-name.from m.id (2 ^ 12) m.optional from refl own.4 _ c.in_err-number.ensures.only))
+
 pub tagged_member_at-returns-in_err-first-clause-only : goal.tagged_member_at-returns-in_err-first-clause-only
-tagged_member_at-returns-in_err-first-clause-only t c = λ m front rest is own deep stops.
-    let here = after_number c.args.text.now front rest own.0 c.args.at m.id (2 ^ 12) m.optional is own.3 own.1 _ c.in_ok-number.behind c.in_ok-number.ensures.only in
-    let mark = after_mark c.args.text.now (own.0 ++ rest) c.in_ok-number.behind c.mark_at-is_optional.result m.optional here.1 c.mark_at-is_optional.ensures.only in
+tagged_member_at-returns-in_err-first-clause-only t c = λ m front rest is is_member deep stops.
+    let own = tagged_parts m.id m.optional m.form front is_member in
+    let there = tagged_there c.args.text.now front rest own.0 m.id m.optional own.2 c.args.at is own.7 in
+    let name = c.in_ok-name.ensures.only own.0 (tagged_member_text m.id m.optional own.2 ++ rest) there own.3 (tagged_first m.id m.optional own.2 rest own.4) in
+    let from = behind_piece c.args.text.now (name_text own.0) (tagged_member_text m.id m.optional own.2 ++ rest) c.args.at c.in_ok-name.from there name.1 in
+    let here = after_number c.args.text.now (tagged_member_text m.id m.optional own.2) rest own.2 c.in_ok-name.from m.id (2 ^ 12) m.optional from refl own.4 _ c.in_ok-number.behind c.in_ok-number.ensures.only in
+    let mark = after_mark c.args.text.now (own.2 ++ rest) c.in_ok-number.behind c.mark_at-is_optional.result m.optional here.1 c.mark_at-is_optional.ensures.only in
     absurd (not_read _ _ (c.in_err-first.ensures.only _ mark.2))
 
 pub tagged_member_at-returns-in_err-shape-clause-only : goal.tagged_member_at-returns-in_err-shape-clause-only
-tagged_member_at-returns-in_err-shape-clause-only t c = λ m front rest is own deep stops.
-    let here = after_number c.args.text.now front rest own.0 c.args.at m.id (2 ^ 12) m.optional is own.3 own.1 _ c.in_ok-number.behind c.in_ok-number.ensures.only in
-    let mark = after_mark c.args.text.now (own.0 ++ rest) c.in_ok-number.behind c.mark_at-is_optional.result m.optional here.1 c.mark_at-is_optional.ensures.only in
-    let inside = behind_piece c.args.text.now (codes ":") (own.0 ++ rest) c.mark_at-is_optional.result.1 c.in_ok-first.first mark.2 c.in_ok-first.ensures.end.0 in
-    rw (passed_on _ _ c.from_residual-in_err-shape.ensures.1) (c.in_err-shape.ensures.only m.form own.0 rest inside own.2 deep stops)
+tagged_member_at-returns-in_err-shape-clause-only t c = λ m front rest is is_member deep stops.
+    let own = tagged_parts m.id m.optional m.form front is_member in
+    let there = tagged_there c.args.text.now front rest own.0 m.id m.optional own.2 c.args.at is own.7 in
+    let name = c.in_ok-name.ensures.only own.0 (tagged_member_text m.id m.optional own.2 ++ rest) there own.3 (tagged_first m.id m.optional own.2 rest own.4) in
+    let from = behind_piece c.args.text.now (name_text own.0) (tagged_member_text m.id m.optional own.2 ++ rest) c.args.at c.in_ok-name.from there name.1 in
+    let here = after_number c.args.text.now (tagged_member_text m.id m.optional own.2) rest own.2 c.in_ok-name.from m.id (2 ^ 12) m.optional from refl own.4 _ c.in_ok-number.behind c.in_ok-number.ensures.only in
+    let mark = after_mark c.args.text.now (own.2 ++ rest) c.in_ok-number.behind c.mark_at-is_optional.result m.optional here.1 c.mark_at-is_optional.ensures.only in
+    let inside = behind_piece c.args.text.now (codes ":") (own.2 ++ rest) c.mark_at-is_optional.result.1 c.in_ok-first.first mark.2 c.in_ok-first.ensures.end.0 in
+    let less : depth own.1 ≤ c.args.left = omega (arith, deep, ap depth own.6, depth-with_name own.0 own.1) in
+    let memory = memory_of form own.1 (c.in_ok-first.first + length own.2) c.in_err-shape.field-0.0 (c.in_err-shape.ensures.only own.1 own.2 rest inside own.5 less stops) in
+    rw (passed_on _ _ c.from_residual-in_err-shape.ensures.1, memory) tt
+
+pub tagged_member_at-returns-in_err-named-clause-only : goal.tagged_member_at-returns-in_err-named-clause-only
+tagged_member_at-returns-in_err-named-clause-only t c = λ m front rest is is_member deep stops.
+    rw (passed_on _ _ c.from_residual-in_err-named.ensures.1, c.in_err-named.ensures.memory) tt
 
 pub tagged_member_at-returns-clause-only : goal.tagged_member_at-returns-clause-only
-tagged_member_at-returns-clause-only t c = λ m front rest is own deep stops.
-    let here = after_number c.args.text.now front rest own.0 c.args.at m.id (2 ^ 12) m.optional is own.3 own.1 _ c.in_ok-number.behind c.in_ok-number.ensures.only in
-    let mark = after_mark c.args.text.now (own.0 ++ rest) c.in_ok-number.behind c.mark_at-is_optional.result m.optional here.1 c.mark_at-is_optional.ensures.only in
-    let inside = behind_piece c.args.text.now (codes ":") (own.0 ++ rest) c.mark_at-is_optional.result.1 c.in_ok-first.first mark.2 c.in_ok-first.ensures.end.0 in
-    let read = c.in_ok-shape.ensures.only m.form own.0 rest inside own.2 deep stops in (
-      one_member-made c.in_ok-number.number c.mark_at-is_optional.result.0 c.in_ok-shape.shape ∙ (λ i. record { id = here.0 i; optional = mark.0 i; form = read.0 i }),
-      omega (arith, read.1, mark.1, c.in_ok-first.ensures.end.0, here.2),
+tagged_member_at-returns-clause-only t c = λ m front rest is is_member deep stops.
+    let own = tagged_parts m.id m.optional m.form front is_member in
+    let there = tagged_there c.args.text.now front rest own.0 m.id m.optional own.2 c.args.at is own.7 in
+    let name = c.in_ok-name.ensures.only own.0 (tagged_member_text m.id m.optional own.2 ++ rest) there own.3 (tagged_first m.id m.optional own.2 rest own.4) in
+    let from = behind_piece c.args.text.now (name_text own.0) (tagged_member_text m.id m.optional own.2 ++ rest) c.args.at c.in_ok-name.from there name.1 in
+    let here = after_number c.args.text.now (tagged_member_text m.id m.optional own.2) rest own.2 c.in_ok-name.from m.id (2 ^ 12) m.optional from refl own.4 _ c.in_ok-number.behind c.in_ok-number.ensures.only in
+    let mark = after_mark c.args.text.now (own.2 ++ rest) c.in_ok-number.behind c.mark_at-is_optional.result m.optional here.1 c.mark_at-is_optional.ensures.only in
+    let inside = behind_piece c.args.text.now (codes ":") (own.2 ++ rest) c.mark_at-is_optional.result.1 c.in_ok-first.first mark.2 c.in_ok-first.ensures.end.0 in
+    let less : depth own.1 ≤ c.args.left = omega (arith, deep, ap depth own.6, depth-with_name own.0 own.1) in
+    let read = c.in_ok-shape.ensures.only own.1 own.2 rest inside own.5 less stops in
+    let whole : form c.in_ok-named.named ≡ m.form = c.in_ok-named.ensures.named ∙ (λ i. with_name (name.0 i) (read.0 i)) ∙ sym own.6 in (
+      one_member-made c.in_ok-number.number c.mark_at-is_optional.result.0 c.in_ok-named.named ∙ (λ i. record { id = here.0 i; optional = mark.0 i; form = whole i }),
+      omega (arith, read.1, mark.1, c.in_ok-first.ensures.end.0, here.2, name.1, ap length own.7, length-append (name_text own.0) (tagged_member_text m.id m.optional own.2)),
     )
+
+-- ---- a member of a structure, perhaps with a name
+
+pub named_at-returns-in_err-name-clause-only : goal.named_at-returns-in_err-name-clause-only
+named_at-returns-in_err-name-clause-only t c = λ f front rest is is_text deep stops.
+    let memory = memory_of (string_bytes {Z = Global}) (slice_range c.args.text.now c.args.at c.args.name_end) (c.args.name_end + 1) c.in_err-name.field-0.0 (c.in_err-name.ensures.only (front ++ rest) is) in
+    rw (passed_on _ _ c.from_residual.ensures.1, memory) tt
+
+pub named_at-returns-in_err-shape-clause-only : goal.named_at-returns-in_err-shape-clause-only
+named_at-returns-in_err-shape-clause-only t c = λ f front rest is is_text deep stops.
+    let name = c.in_ok-name.ensures.only (front ++ rest) is in
+    let inside = behind_piece c.args.text.now (codes ":") (front ++ rest) c.args.name_end c.in_ok-name.first is name.1 in
+    let memory = memory_of form f (c.in_ok-name.first + length front) c.in_err-shape.field-0.0 (c.in_err-shape.ensures.only f front rest inside is_text deep stops) in
+    rw (passed_on _ _ c.from_residual-in_err-shape.ensures.1, memory) tt
+
+pub named_at-returns-in_err-with_name-clause-only : goal.named_at-returns-in_err-with_name-clause-only
+named_at-returns-in_err-with_name-clause-only t c = λ f front rest is is_text deep stops.
+    rw (passed_on _ _ c.from_residual-in_err-with_name.ensures.1, c.in_err-with_name.ensures.memory) tt
+
+pub named_at-returns-clause-only : goal.named_at-returns-clause-only
+named_at-returns-clause-only t c = λ f front rest is is_text deep stops.
+    let name = c.in_ok-name.ensures.only (front ++ rest) is in
+    let inside = behind_piece c.args.text.now (codes ":") (front ++ rest) c.args.name_end c.in_ok-name.first is name.1 in
+    let read = c.in_ok-shape.ensures.only f front rest inside is_text deep stops in
+    (c.in_ok-with_name.ensures.named ∙ (λ i. named (name.0 i) (read.0 i)), omega (arith, read.1, name.1))
+
+pub member_at-returns-clause-found : goal.member_at-returns-clause-found
+member_at-returns-clause-found t c = rw c.reach.ensures (plain_member c.shape_at.result c.args.text.now c.args.at c.name_end-name.result c.shape_at.ensures.found)
+
+pub member_at-returns-then-left-eq0-clause-only : goal.member_at-returns-then-left-eq0-clause-only
+member_at-returns-then-left-eq0-clause-only t c = λ f front rest is is_member deep stops. absurd (omega (arith, deep, some_depth f, c.if-left-eq0.true))
+
+pub member_at-returns-then-has_name-clause-only : goal.member_at-returns-then-has_name-clause-only
+member_at-returns-then-has_name-clause-only t c =
+    let there = c.has_name.ensures.there c.if-has_name.true in
+    with_colon c.args.text.now c.args.at c.name_end-name.result c.name_end-name.ensures.only c.args.left c.named_at.result _ (byte_and_rest c.args.text.now c.name_end-name.result 58 there.1 there.2) c.named_at.ensures.only
+
+pub member_at-returns-clause-only : goal.member_at-returns-clause-only
+member_at-returns-clause-only t c =
+    rw c.reach.ensures (without_colon c.args.text.now c.args.at c.name_end-name.result c.name_end-name.ensures.only c.args.left c.shape_at.result (λ tail lt colon. absurd (false≢true (sym c.if-has_name.false ∙ c.has_name.ensures.only tail lt colon))) c.shape_at.ensures.only)
 
 -- ---- items, one after the other
 
@@ -424,17 +485,17 @@ tagged_members_at-loop-items-init t c = none_read tagged_members c.args.text.now
 pub members_at-loop-items-preserved : goal.members_at-loop-items-preserved
 members_at-loop-items-preserved t c =
     one_more members c.loop-items.invariant c.in_ok-item.item c.in_ok-item.end _ (search rules)
-    c.in_ok-item.ensures.end.0 (c.if-has_comma.ensures.comma refl) c.in_ok-item.ensures.found c.in_ok-item.ensures.only c.in_ok-item.ensures.within
+    c.in_ok-item.ensures.end.0 (c.if-has_byte.ensures.there refl) c.in_ok-item.ensures.found c.in_ok-item.ensures.only c.in_ok-item.ensures.within
 
 pub variants_at-loop-items-preserved : goal.variants_at-loop-items-preserved
 variants_at-loop-items-preserved t c =
     one_more variants c.loop-items.invariant c.in_ok-item.item c.in_ok-item.end _ (search rules)
-    c.in_ok-item.ensures.end.0 (c.if-has_comma.ensures.comma refl) c.in_ok-item.ensures.found c.in_ok-item.ensures.only c.in_ok-item.ensures.within
+    c.in_ok-item.ensures.end.0 (c.if-has_byte.ensures.there refl) c.in_ok-item.ensures.found c.in_ok-item.ensures.only c.in_ok-item.ensures.within
 
 pub tagged_members_at-loop-items-preserved : goal.tagged_members_at-loop-items-preserved
 tagged_members_at-loop-items-preserved t c =
     one_more tagged_members c.loop-items.invariant c.in_ok-item.item c.in_ok-item.end _ (search rules)
-    c.in_ok-item.ensures.end.0 (c.if-has_comma.ensures.comma refl) c.in_ok-item.ensures.found c.in_ok-item.ensures.only c.in_ok-item.ensures.within
+    c.in_ok-item.ensures.end.0 (c.if-has_byte.ensures.there refl) c.in_ok-item.ensures.found c.in_ok-item.ensures.only c.in_ok-item.ensures.within
 
 pub members_at-returns-in_err-item-clause-only : goal.members_at-returns-in_err-item-clause-only
 members_at-returns-in_err-item-clause-only t c = not_one members c.loop-items.invariant _ _ (passed_on _ _ c.from_residual.ensures.1) c.in_err-item.ensures.only
@@ -447,24 +508,24 @@ tagged_members_at-returns-in_err-item-clause-only t c = not_one tagged_members c
 
 pub members_at-returns-in_err-end-clause-only : goal.members_at-returns-in_err-end-clause-only
 members_at-returns-in_err-end-clause-only t c =
-    no_bracket members c.loop-items.invariant c.in_ok-item.item c.in_ok-item.end _ refl c.in_ok-item.ensures.only c.if-has_comma.ensures.only _ _ c.in_err-end.ensures.only
+    no_bracket members c.loop-items.invariant c.in_ok-item.item c.in_ok-item.end _ refl c.in_ok-item.ensures.only c.if-has_byte.ensures.only _ _ c.in_err-end.ensures.only
 
 pub variants_at-returns-in_err-end-clause-only : goal.variants_at-returns-in_err-end-clause-only
 variants_at-returns-in_err-end-clause-only t c =
-    no_bracket variants c.loop-items.invariant c.in_ok-item.item c.in_ok-item.end _ refl c.in_ok-item.ensures.only c.if-has_comma.ensures.only _ _ c.in_err-end.ensures.only
+    no_bracket variants c.loop-items.invariant c.in_ok-item.item c.in_ok-item.end _ refl c.in_ok-item.ensures.only c.if-has_byte.ensures.only _ _ c.in_err-end.ensures.only
 
 pub tagged_members_at-returns-in_err-end-clause-only : goal.tagged_members_at-returns-in_err-end-clause-only
 tagged_members_at-returns-in_err-end-clause-only t c =
-    no_bracket tagged_members c.loop-items.invariant c.in_ok-item.item c.in_ok-item.end _ refl c.in_ok-item.ensures.only c.if-has_comma.ensures.only _ _ c.in_err-end.ensures.only
+    no_bracket tagged_members c.loop-items.invariant c.in_ok-item.item c.in_ok-item.end _ refl c.in_ok-item.ensures.only c.if-has_byte.ensures.only _ _ c.in_err-end.ensures.only
 
-pub members_at-returns-else-has_comma-clause-only : goal.members_at-returns-else-has_comma-clause-only
-members_at-returns-else-has_comma-clause-only t c =
-    all_only members c.loop-items.invariant c.in_ok-item.item c.in_ok-item.end _ (search rules) c.in_ok-item.ensures.only c.if-has_comma.ensures.only c.push.new.self c.in_ok-end.end refl c.in_ok-end.ensures.end.0
+pub members_at-returns-else-has_byte-clause-only : goal.members_at-returns-else-has_byte-clause-only
+members_at-returns-else-has_byte-clause-only t c =
+    all_only members c.loop-items.invariant c.in_ok-item.item c.in_ok-item.end _ (search rules) c.in_ok-item.ensures.only c.if-has_byte.ensures.only c.push.new.self c.in_ok-end.end refl c.in_ok-end.ensures.end.0
 
-pub variants_at-returns-else-has_comma-clause-only : goal.variants_at-returns-else-has_comma-clause-only
-variants_at-returns-else-has_comma-clause-only t c =
-    all_only variants c.loop-items.invariant c.in_ok-item.item c.in_ok-item.end _ (search rules) c.in_ok-item.ensures.only c.if-has_comma.ensures.only c.push.new.self c.in_ok-end.end refl c.in_ok-end.ensures.end.0
+pub variants_at-returns-else-has_byte-clause-only : goal.variants_at-returns-else-has_byte-clause-only
+variants_at-returns-else-has_byte-clause-only t c =
+    all_only variants c.loop-items.invariant c.in_ok-item.item c.in_ok-item.end _ (search rules) c.in_ok-item.ensures.only c.if-has_byte.ensures.only c.push.new.self c.in_ok-end.end refl c.in_ok-end.ensures.end.0
 
-pub tagged_members_at-returns-else-has_comma-clause-only : goal.tagged_members_at-returns-else-has_comma-clause-only
-tagged_members_at-returns-else-has_comma-clause-only t c =
-    all_only tagged_members c.loop-items.invariant c.in_ok-item.item c.in_ok-item.end _ (search rules) c.in_ok-item.ensures.only c.if-has_comma.ensures.only c.push.new.self c.in_ok-end.end refl c.in_ok-end.ensures.end.0
+pub tagged_members_at-returns-else-has_byte-clause-only : goal.tagged_members_at-returns-else-has_byte-clause-only
+tagged_members_at-returns-else-has_byte-clause-only t c =
+    all_only tagged_members c.loop-items.invariant c.in_ok-item.item c.in_ok-item.end _ (search rules) c.in_ok-item.ensures.only c.if-has_byte.ensures.only c.push.new.self c.in_ok-end.end refl c.in_ok-end.ensures.end.0

@@ -1,6 +1,6 @@
 use Rattle.std.proofs.Common.{ℕ, ◌+◌, List, ◌++◌, length, sym, ap, ◌∙◌}
-use Rattle.someip_payload.proofs.Converse.{same_first, same_second, not_read}
-use Rattle.someip_payload.proofs.ConverseParts.{behind_string, string_is}
+use Rattle.someip_payload.proofs.Converse.{same_first, same_second, not_read, ends_width}
+use Rattle.someip_payload.proofs.ConverseParts.{string_is}
 use Rattle.someip_payload.proofs.ShapePieces.{string_shape}
 use Rattle.someip_payload.proofs.shape_text.string_at.Goals as goal
 
@@ -9,13 +9,11 @@ returns-clause-found c = string_shape c.args.encoding c.in_ok-width.width _ _ c.
 
 pub returns-in_err-width-clause-only : goal.returns-in_err-width-clause-only
 returns-in_err-width-clause-only c = λ f back rest is behind stops.
-    let own = behind_string c.args.encoding f back behind in
-    absurd (not_read _ _ (c.in_err-width.ensures.only own.0 rest (is ∙ ap (λ (t : List ℕ). t ++ rest) own.2) stops))
+    absurd (not_read _ _ (c.in_err-width.ensures.only behind.0 rest (is ∙ ap (λ (t : List ℕ). t ++ rest) behind.2) (ends_width rest stops)))
 
 pub returns-clause-only : goal.returns-clause-only
 returns-clause-only c = λ f back rest is behind stops.
-    let own = behind_string c.args.encoding f back behind in
-    let read = c.in_ok-width.ensures.only own.0 rest (is ∙ ap (λ (t : List ℕ). t ++ rest) own.2) stops in (
-      string_is c.args.encoding c.in_ok-width.width own.0 _ f c.or_32.ensures (same_first _ _ _ _ read) own.1,
-      same_second _ _ _ _ read ∙ ap (λ (t : List ℕ). c.args.at + length t) (sym own.2),
+    let read = c.in_ok-width.ensures.only behind.0 rest (is ∙ ap (λ (t : List ℕ). t ++ rest) behind.2) (ends_width rest stops) in (
+      string_is c.args.encoding c.in_ok-width.width behind.0 _ f c.or_32.ensures (same_first _ _ _ _ read) behind.1,
+      same_second _ _ _ _ read ∙ ap (λ (t : List ℕ). c.args.at + length t) (sym behind.2),
     )

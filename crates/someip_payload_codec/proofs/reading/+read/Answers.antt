@@ -1,11 +1,14 @@
-use Rattle.std.proofs.Common.{None, is_some, true, false, sym, refl, ◌≡◌, ◌<◌, ◌++◌, ◌∷◌, [], ◌∙◌, ap, length, map, rules, arith}
+use Rattle.std.proofs.Common.{None, Some, string_bytes, is_some, true, false, sym, refl, ◌≡◌, ◌<◌, ◌++◌, ◌∷◌, [], ◌∙◌, ap, length, map, rules, arith}
 use Rattle.std.proofs.lemmas.Result.{err_from_is_err_and}
 use Rattle.std.proofs.lemmas.List.{map_push, length-map, with_items_is}
-use Rattle.someip_payload_values.specs.Data.{bool, u8, u16, u32, u64, i8, i16, i32, i64, string, array, fixed, union, tagged}
-use Rattle.someip_payload_values.specs.View.{form, all_variants, all_members, data_of, slots_of}
+use Rattle.someip_payload_values.specs.Data.{bool, u8, u16, u32, u64, i8, i16, i32, i64, unsigned, signed, padded, named, enumerated, string, array, fixed, union, tagged}
+use Rattle.someip_payload_values.specs.declared.shape.Width.TheVariants.{W32}
+use Rattle.someip_payload_values.specs.declared.number.Order.TheVariants.{Little}
+use Rattle.someip_payload_values.specs.declared.number.Size.TheVariants.{S16, S32, S64}
+use Rattle.someip_payload_values.specs.View.{form, labels_of, all_variants, all_members, data_of, slots_of}
 use Rattle.someip_payload_codec.specs.View.{seen}
 use Rattle.someip_payload_codec.specs.Reading.{data_at, data_by, items_at, chosen_at, item_by, item_at}
-use Rattle.someip_payload_values.proofs.Shapes.{form-Bool, form-U8, form-U16, form-U32, form-U64, form-I8, form-I16, form-I32, form-I64, form-Text, form-Array, form-Fixed, form-Union, form-Tagged, data_of-Some}
+use Rattle.someip_payload_values.proofs.Shapes.{form-Bool, form-U8, form-U16, form-U32, form-U64, form-I8, form-I16, form-I32, form-I64, form-U16Le, form-U32Le, form-U64Le, form-I16Le, form-I32Le, form-I64Le, form-FixedText, form-FramedFixed, form-SizedUnion, form-Named, form-Enum, form-Text, form-Array, form-Fixed, form-Union, form-Tagged, data_of-Some}
 use Rattle.someip_payload_codec.proofs.parts.Loops.{items_go_on, items_fail, items_too_many, items_done, fixed_more, fixed_bad, fixed_end, members_go_on, members_fail, members_done, variant_hit, variant_miss, variant_none}
 use Rattle.someip_payload_values.specs.declared.shape.Shape.{the_lemmas}
 use Rattle.someip_payload_codec.proofs.tagged.TaggedLoops.{none_read, found_in, skip_fills, slots_duplicate, slots_fault, slots_value, tagged_go_on, tagged_fail, tagged_done}
@@ -50,7 +53,7 @@ members-returns t c = members_done (map data_of c.loop-shape.values.items) c.arg
 pub value_by-returns-in-Union : goal.value_by-returns-in-Union
 unfolding data_by
 value_by-returns-in-Union t c =
-    let e : form c.args.shape.now ≡ union (all_variants c.in-Union.variants.items) = ap form c.in-Union.is ∙ form-Union c.in-Union.variants in
+    let e : form c.args.shape.now ≡ union W32 W32 (all_variants c.in-Union.variants.items) = ap form c.in-Union.is ∙ form-Union c.in-Union.variants in
     rw (e, ← c.deref-in-Union.ensures.value) c.union.ensures
 
 pub chosen-returns : goal.chosen-returns
@@ -254,7 +257,7 @@ pub value_by-returns-in-Fixed : goal.value_by-returns-in-Fixed
 unfolding data_by
 value_by-returns-in-Fixed t c =
     let x = c.in-Fixed in
-    let f : form c.args.shape.now ≡ fixed x.count (form x.element.value) = ap form x.is ∙ form-Fixed x.count x.element in
+    let f : form c.args.shape.now ≡ fixed None x.count (form x.element.value) = ap form x.is ∙ form-Fixed x.count x.element in
     rw f (search rules)
 
 pub value_by-returns-in-Tagged : goal.value_by-returns-in-Tagged
@@ -262,4 +265,75 @@ unfolding data_by
 value_by-returns-in-Tagged t c =
     let x = c.in-Tagged in
     let f : form c.args.shape.now ≡ tagged x.field-0 (all_members x.members.items) = ap form x.is ∙ form-Tagged x.field-0 x.members in
+    rw f (search rules)
+
+pub value_by-returns-in-U16Le : goal.value_by-returns-in-U16Le
+unfolding data_by
+value_by-returns-in-U16Le t c =
+    let f : form c.args.shape.now ≡ unsigned Little S16 = ap form c.in-U16Le.is ∙ form-U16Le in
+    rw f (search rules)
+
+pub value_by-returns-in-U32Le : goal.value_by-returns-in-U32Le
+unfolding data_by
+value_by-returns-in-U32Le t c =
+    let f : form c.args.shape.now ≡ unsigned Little S32 = ap form c.in-U32Le.is ∙ form-U32Le in
+    rw f (search rules)
+
+pub value_by-returns-in-U64Le : goal.value_by-returns-in-U64Le
+unfolding data_by
+value_by-returns-in-U64Le t c =
+    let f : form c.args.shape.now ≡ unsigned Little S64 = ap form c.in-U64Le.is ∙ form-U64Le in
+    rw f (search rules)
+
+pub value_by-returns-in-I16Le : goal.value_by-returns-in-I16Le
+unfolding data_by
+value_by-returns-in-I16Le t c =
+    let f : form c.args.shape.now ≡ signed Little S16 = ap form c.in-I16Le.is ∙ form-I16Le in
+    rw f (search rules)
+
+pub value_by-returns-in-I32Le : goal.value_by-returns-in-I32Le
+unfolding data_by
+value_by-returns-in-I32Le t c =
+    let f : form c.args.shape.now ≡ signed Little S32 = ap form c.in-I32Le.is ∙ form-I32Le in
+    rw f (search rules)
+
+pub value_by-returns-in-I64Le : goal.value_by-returns-in-I64Le
+unfolding data_by
+value_by-returns-in-I64Le t c =
+    let f : form c.args.shape.now ≡ signed Little S64 = ap form c.in-I64Le.is ∙ form-I64Le in
+    rw f (search rules)
+
+pub value_by-returns-in-FixedText : goal.value_by-returns-in-FixedText
+unfolding data_by
+value_by-returns-in-FixedText t c =
+    let x = c.in-FixedText in
+    let f : form c.args.shape.now ≡ padded x.encoding x.len = ap form x.is ∙ form-FixedText x.encoding x.len in
+    rw f (search rules)
+
+pub value_by-returns-in-FramedFixed : goal.value_by-returns-in-FramedFixed
+unfolding data_by
+value_by-returns-in-FramedFixed t c =
+    let x = c.in-FramedFixed in
+    let f : form c.args.shape.now ≡ fixed (Some x.field-0) x.count (form x.element.value) = ap form x.is ∙ form-FramedFixed x.field-0 x.count x.element in
+    rw f (search rules)
+
+pub value_by-returns-in-SizedUnion : goal.value_by-returns-in-SizedUnion
+unfolding data_by
+value_by-returns-in-SizedUnion t c =
+    let x = c.in-SizedUnion in
+    let f : form c.args.shape.now ≡ union x.field-0 x.field (all_variants x.variants.items) = ap form x.is ∙ form-SizedUnion x.field-0 x.field x.variants in
+    rw (f, ← c.deref-in-SizedUnion.ensures.value) c.union-in-SizedUnion.ensures
+
+pub value_by-returns-in-Named : goal.value_by-returns-in-Named
+unfolding data_by
+value_by-returns-in-Named t c =
+    let x = c.in-Named in
+    let f : form c.args.shape.now ≡ named (string_bytes x.field-0) (form x.shape.value) = ap form x.is ∙ form-Named x.field-0 x.shape in
+    rw f (search rules)
+
+pub value_by-returns-in-Enum : goal.value_by-returns-in-Enum
+unfolding data_by
+value_by-returns-in-Enum t c =
+    let x = c.in-Enum in
+    let f : form c.args.shape.now ≡ enumerated (form x.shape.value) (labels_of x.field-1.items) = ap form x.is ∙ form-Enum x.shape x.field-1 in
     rw f (search rules)

@@ -1,44 +1,79 @@
-use Rattle.std.proofs.Common.{rules, ◌≡◌, ◌++◌, ◌∙◌, sym, ap, codes, map, take}
+use Rattle.std.proofs.Common.{rules, ◌≡◌, ◌++◌, ◌∙◌, sym, ap, [], refl, option_map}
 use Rattle.std.proofs.Output.{has_written_append, has_written_of_eq}
-use Rattle.std.proofs.lemmas.List.{take_all}
 use Rattle.std.specs.Fmt.{HasWritten, IsPlainFormatter}
-use Rattle.someip_payload_values.specs.ValueText.{listed, value_text, slot_text}
-use Rattle.someip_payload_values.proofs.ValueTexts.{value_text-List, value_text-Struct, value_text-Tagged, slots_more, slots_first}
+use Rattle.someip_payload_values.specs.View.{form, forms, all_members, data_of, data_of_all, slots_of}
+use Rattle.someip_payload_values.specs.Data.{slotted}
+use Rattle.someip_payload_values.specs.ValueText.{or_bool, data_text}
+use Rattle.someip_payload_values.proofs.Shapes.{data_of-Tagged}
+use Rattle.someip_payload_values.proofs.ValueTexts.{element_next, elements_done, member_next, members_done, slot_next, slots_done}
 use Rattle.someip_payload_values.proofs.value_text.+value_text.Goals as goal
-use Rattle.someip_payload_values.proofs.value_text.+value_text.Goals.{write_slots-then-i-gt0+in_ok-write_str, write_slots-else-i-gt0, write_slots-in-None+in_ok-write-in-None, write_slots-in-Some+in_ok-fmt-in-Some}
+use Rattle.someip_payload_values.proofs.value_text.+value_text.Goals.{write_slots-in-None+in_ok-write_str-in-None as absent, write_slots-in-Some+in_ok-write_some-in-Some as present}
+
+pub write_elements-loop-i-preserved : goal.write_elements-loop-i-preserved
+write_elements-loop-i-preserved g t c =
+    let (written, so_far, printed) = c.loop-i.invariant in (
+      _,
+      element_next (or_bool (option_map (λ s. form s.now) c.args.element)) c.args.values.now c.loop-i.i written _ c.index-values-i.result c.loop-i-test.true c.index-values-i.is so_far,
+      λ p.
+          let before = printed p in
+          let comma = c.in_ok-write_comma.ensures before.plain refl in
+          has_written_append _ _ _ _ _ _ before (has_written_append _ _ _ _ _ _ comma (c.in_ok-write_some.ensures comma.plain refl)),
+    )
+
+pub write_elements-returns : goal.write_elements-returns
+write_elements-returns g t c p done =
+    let (written, so_far, printed) = c.loop-i.invariant in
+    has_written_of_eq _ _ _ _ _ (sym (elements_done (or_bool (option_map (λ s. form s.now) c.args.element)) c.args.values.now c.loop-i.i written _ c.loop-i-test.false so_far)) (printed p)
+
+pub write_members-loop-i-init : goal.write_members-loop-i-init
+write_members-loop-i-init g t c = ([], refl, λ p. search rules)
+
+pub write_members-loop-i-preserved : goal.write_members-loop-i-preserved
+write_members-loop-i-preserved g t c =
+    let (written, so_far, printed) = c.loop-i.invariant in
+    let e = c.member_at-shape.ensures in (
+      _,
+      member_next c.args.shapes.now c.args.values.now c.loop-i.i written _ c.index-values-i.result c.loop-i-test.true c.index-values-i.is so_far,
+      λ p.
+          let before = printed p in
+          let comma = c.in_ok-write_comma.ensures before.plain refl in
+          let name = rw e at (c.in_ok-write_name.ensures comma.plain refl) in
+          let value = rw e at (c.in_ok-write_some.ensures name.plain refl) in
+          has_written_append _ _ _ _ _ _ before (has_written_append _ _ _ _ _ _ comma (has_written_append _ _ _ _ _ _ name value)),
+    )
+
+pub write_members-returns : goal.write_members-returns
+write_members-returns g t c p done =
+    let (written, so_far, printed) = c.loop-i.invariant in
+    has_written_of_eq _ _ _ _ _ (sym (members_done c.args.shapes.now c.args.values.now c.loop-i.i written _ c.loop-i-test.false so_far)) (printed p)
+
+pub write_slots-loop-i-init : goal.write_slots-loop-i-init
+write_slots-loop-i-init g t c = ([], refl, λ p. search rules)
 
 pub write_slots-loop-i-preserved : goal.write_slots-loop-i-preserved
-write_slots-loop-i-preserved g t c p =
-    let before = c.loop-i.invariant p in
-    let text : IsPlainFormatter c.if-i-gt0.f → HasWritten g.W.Write.write_str_gives c.if-i-gt0.f (slot_text c.index-slots-i.result) c.match-slot.f =
-    λ q. elim c.match-slot.branch [
-      | write_slots-in-None+in_ok-write-in-None w ↦ search rules
-      | write_slots-in-Some+in_ok-fmt-in-Some w ↦ search rules
-    ]
-    in
-    elim c.if-i-gt0.branch [
-      | write_slots-then-i-gt0+in_ok-write_str w ↦
-          let comma : HasWritten g.W.Write.write_str_gives c.loop-i.f (codes ",") c.if-i-gt0.f = search rules in
-          has_written_of_eq _ _ _ _ _ (sym (slots_more c.args.slots.now c.loop-i.i c.index-slots-i.result c.loop-i-test.true c.index-slots-i.is w.if-i-gt0.true)) (has_written_append _ _ _ _ _ _ before (has_written_append _ _ _ _ _ _ comma (text comma.plain)))
-      | write_slots-else-i-gt0 w ↦
-          let start : HasWritten g.W.Write.write_str_gives c.args.f.now (listed (map slot_text (take c.loop-i.i c.args.slots.now))) c.if-i-gt0.f = rw w.f-is before in
-          has_written_of_eq _ _ _ _ _ (slots_first c.args.slots.now c.loop-i.i c.index-slots-i.result c.loop-i-test.true c.index-slots-i.is w.if-i-gt0.false) (has_written_append _ _ _ _ _ _ start (text start.plain))
-    ]
+write_slots-loop-i-preserved g t c =
+    let (written, so_far, printed) = c.loop-i.invariant in
+    let e = c.tagged_at-shape.ensures in (
+      _,
+      slot_next c.args.members.now c.args.slots.now c.loop-i.i written _ c.index-slots-i.result c.loop-i-test.true c.index-slots-i.is so_far,
+      λ p.
+          let before = printed p in
+          let comma = c.in_ok-write_comma.ensures before.plain refl in
+          let name = rw e at (c.in_ok-write_name.ensures comma.plain refl) in
+          has_written_append _ _ _ _ _ _ before (has_written_append _ _ _ _ _ _ comma (elim c.match-slots-i.branch [
+            | absent w ↦ rw (w.in-None.is, w.f-is) (has_written_append _ _ _ _ _ _ name (w.in_ok-write_str-in-None.ensures.writes name.plain refl))
+            | present w ↦ rw (w.in-Some.is, w.f-is) (has_written_append _ _ _ _ _ _ name (rw e at (w.in_ok-write_some-in-Some.ensures name.plain refl)))
+          ])),
+    )
 
 pub write_slots-returns : goal.write_slots-returns
-write_slots-returns g t c p done = rw (← take_all c.loop-i.i c.args.slots.now c.loop-i-test.false) (c.loop-i.invariant p)
+write_slots-returns g t c p done =
+    let (written, so_far, printed) = c.loop-i.invariant in
+    has_written_of_eq _ _ _ _ _ (sym (slots_done c.args.members.now c.args.slots.now c.loop-i.i written _ c.loop-i-test.false so_far)) (printed p)
 
-pub ValueDisplay::fmt-returns-in-Tagged-clause-writes : goal.ValueDisplay::fmt-returns-in-Tagged-clause-writes
-ValueDisplay::fmt-returns-in-Tagged-clause-writes g t c p done =
-    let e : value_text c.args.self.now ≡ codes "{" ++ (listed (map slot_text c.in-Tagged.slots.items) ++ codes "}") = ap value_text c.in-Tagged.is ∙ value_text-Tagged c.in-Tagged.slots in
-    rw e (search rules)
-
-pub ValueDisplay::fmt-returns-in-List-clause-writes : goal.ValueDisplay::fmt-returns-in-List-clause-writes
-ValueDisplay::fmt-returns-in-List-clause-writes g t c p done =
-    let e : value_text c.args.self.now ≡ codes "[" ++ (listed (map value_text c.in-List.values.items) ++ codes "]") = ap value_text c.in-List.is ∙ value_text-List c.in-List.values in
-    rw e (search rules)
-
-pub ValueDisplay::fmt-returns-in-Struct-clause-writes : goal.ValueDisplay::fmt-returns-in-Struct-clause-writes
-ValueDisplay::fmt-returns-in-Struct-clause-writes g t c p done =
-    let e : value_text c.args.self.now ≡ codes "(" ++ (listed (map value_text c.in-Struct.values.items) ++ codes ")") = ap value_text c.in-Struct.is ∙ value_text-Struct c.in-Struct.values in
-    rw e (search rules)
+pub write_value-returns-in-Tagged : goal.write_value-returns-in-Tagged
+unfolding data_text
+write_value-returns-in-Tagged g t c p done =
+    let x = c.in-Tagged in
+    let d : data_of c.args.value.now ≡ slotted (slots_of x.slots.items) = ap data_of x.is ∙ data_of-Tagged x.slots in
+    rw d (search rules)

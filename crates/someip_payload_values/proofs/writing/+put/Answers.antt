@@ -1,10 +1,13 @@
-use Rattle.std.proofs.Common.{rules, ◌≡◌, true, string_bytes, refl, ap, ◌++◌, ◌∙◌, append_assoc, arith}
+use Rattle.std.proofs.Common.{rules, ◌≡◌, None, Some, true, string_bytes, refl, ap, ◌++◌, ◌∙◌, append_assoc, arith}
 use Rattle.std.proofs.lemmas.Result.{err_from_is_err_and}
 use Rattle.std.specs.Str.{is_utf8}
 use Rattle.std.proofs.lemmas.Str.{IsUtf8-string_bytes, is_utf8-from_IsUtf8}
-use Rattle.someip_payload_values.specs.Data.{u8, u16, u32, u64, i8, i16, i32, i64, array, fixed, «struct», union, tagged, string, uint, int, phrase, list, tuple, slotted}
-use Rattle.someip_payload_values.specs.View.{form, forms, all_variants, all_members, data_of, data_of_all, data_of_choice, slots_of}
-use Rattle.someip_payload_values.proofs.Shapes.{form-U8, form-U16, form-U32, form-U64, form-I8, form-I16, form-I32, form-I64, form-Text, form-Array, form-Fixed, form-Struct, form-Union, form-Tagged, data_of-Uint, data_of-Int, data_of-Text, data_of-List, data_of-Struct, data_of-Union, data_of-Tagged}
+use Rattle.someip_payload_values.specs.Data.{u8, u16, u32, u64, i8, i16, i32, i64, unsigned, signed, padded, named, enumerated, array, fixed, «struct», union, tagged, string, uint, int, phrase, list, tuple, slotted}
+use Rattle.someip_payload_values.specs.declared.shape.Width.TheVariants.{W32}
+use Rattle.someip_payload_values.specs.declared.number.Order.TheVariants.{Little}
+use Rattle.someip_payload_values.specs.declared.number.Size.TheVariants.{S16, S32, S64}
+use Rattle.someip_payload_values.specs.View.{form, forms, all_variants, all_members, labels_of, data_of, data_of_all, data_of_choice, slots_of}
+use Rattle.someip_payload_values.proofs.Shapes.{form-U8, form-U16, form-U32, form-U64, form-I8, form-I16, form-I32, form-I64, form-U16Le, form-U32Le, form-U64Le, form-I16Le, form-I32Le, form-I64Le, form-Text, form-FixedText, form-FramedFixed, form-SizedUnion, form-Named, form-Enum, form-Array, form-Fixed, form-Struct, form-Union, form-Tagged, data_of-Uint, data_of-Int, data_of-Text, data_of-List, data_of-Struct, data_of-Union, data_of-Tagged}
 use Rattle.someip_payload_values.specs.Writing.{text_of, body_text, slots_text}
 use Rattle.someip_payload_values.specs.Steps.{◌>>=◌}
 use Rattle.someip_payload_values.proofs.StepLemmas.{fails_too}
@@ -48,18 +51,18 @@ put_members-returns t c =
 pub put_variant-returns-then-variant-kind : goal.put_variant-returns-then-variant-kind
 put_variant-returns-then-variant-kind t c =
     let (same_out, so_far) = c.loop-variant.invariant in
-    let e = variant_hit c.args.kind (data_of c.args.value.now) c.args.variants.now c.loop-variant.variant-index c.variant-item.result _ c.loop-variant-test.true c.variant-item.is c.if-variant-kind.true so_far in
+    let e = variant_hit c.args.width c.args.field c.args.kind (data_of c.args.value.now) c.args.variants.now c.loop-variant.variant-index c.variant-item.result _ c.loop-variant-test.true c.variant-item.is c.if-variant-kind.true so_far in
     rw (e, ← same_out) c.put_chosen.ensures
 
 pub put_variant-loop-variant-preserved : goal.put_variant-loop-variant-preserved
 put_variant-loop-variant-preserved t c =
     let (same_out, so_far) = c.loop-variant.invariant in
-    (same_out, variant_miss c.args.kind (data_of c.args.value.now) c.args.variants.now c.loop-variant.variant-index c.variant-item.result _ c.loop-variant-test.true c.variant-item.is c.if-variant-kind.false so_far)
+    (same_out, variant_miss c.args.width c.args.field c.args.kind (data_of c.args.value.now) c.args.variants.now c.loop-variant.variant-index c.variant-item.result _ c.loop-variant-test.true c.variant-item.is c.if-variant-kind.false so_far)
 
 pub put_variant-returns : goal.put_variant-returns
 put_variant-returns t c =
     let (same_out, so_far) = c.loop-variant.invariant in
-    variant_none c.args.kind (data_of c.args.value.now) c.args.variants.now c.loop-variant.variant-index _ c.loop-variant-test.false so_far
+    variant_none c.args.width c.args.field c.args.kind (data_of c.args.value.now) c.args.variants.now c.loop-variant.variant-index _ c.loop-variant-test.false so_far
 
 pub put-returns-in-Text-Text : goal.put-returns-in-Text-Text
 unfolding text_of
@@ -73,7 +76,7 @@ put-returns-in-Text-Text t c =
 pub put-returns-in-Union-Union : goal.put-returns-in-Union-Union
 put-returns-in-Union-Union t c =
     let x = c.in-Union-Union in
-    let f : form c.args.shape.now ≡ union (all_variants x.variants.items) = ap form x.is-0 ∙ form-Union x.variants in
+    let f : form c.args.shape.now ≡ union W32 W32 (all_variants x.variants.items) = ap form x.is-0 ∙ form-Union x.variants in
     let d : data_of c.args.value.now ≡ data_of_choice x.choice = ap data_of x.is-1 ∙ data_of-Union x.choice in
     rw (f, d) (search rules)
 
@@ -184,7 +187,7 @@ pub put-returns-in-Fixed-List : goal.put-returns-in-Fixed-List
 unfolding text_of
 put-returns-in-Fixed-List t c =
     let x = c.in-Fixed-List in
-    let f : form c.args.shape.now ≡ fixed x.count (form x.element.value) = ap form x.is-0 ∙ form-Fixed x.count x.element in
+    let f : form c.args.shape.now ≡ fixed None x.count (form x.element.value) = ap form x.is-0 ∙ form-Fixed x.count x.element in
     let d : data_of c.args.value.now ≡ list (data_of_all x.values.items) = ap data_of x.is-1 ∙ data_of-List x.values in
     rw (f, d) (search rules)
 
@@ -194,4 +197,76 @@ put-returns-in-Struct-Struct t c =
     let x = c.in-Struct-Struct in
     let f : form c.args.shape.now ≡ «struct» x.width (forms x.shapes.items) = ap form x.is-0 ∙ form-Struct x.width x.shapes in
     let d : data_of c.args.value.now ≡ tuple (data_of_all x.values.items) = ap data_of x.is-1 ∙ data_of-Struct x.values in
+    rw (f, d) (search rules)
+
+pub put-returns-in-U16Le-Uint : goal.put-returns-in-U16Le-Uint
+unfolding text_of
+put-returns-in-U16Le-Uint t c =
+    let x = c.in-U16Le-Uint in
+    let f : form c.args.shape.now ≡ unsigned Little S16 = ap form x.is-0 ∙ form-U16Le in
+    let d : data_of c.args.value.now ≡ uint x.n = ap data_of x.is-1 ∙ data_of-Uint x.n in
+    rw (f, d) (search rules)
+
+pub put-returns-in-U32Le-Uint : goal.put-returns-in-U32Le-Uint
+unfolding text_of
+put-returns-in-U32Le-Uint t c =
+    let x = c.in-U32Le-Uint in
+    let f : form c.args.shape.now ≡ unsigned Little S32 = ap form x.is-0 ∙ form-U32Le in
+    let d : data_of c.args.value.now ≡ uint x.n = ap data_of x.is-1 ∙ data_of-Uint x.n in
+    rw (f, d) (search rules)
+
+pub put-returns-in-U64Le-Uint : goal.put-returns-in-U64Le-Uint
+unfolding text_of
+put-returns-in-U64Le-Uint t c =
+    let x = c.in-U64Le-Uint in
+    let f : form c.args.shape.now ≡ unsigned Little S64 = ap form x.is-0 ∙ form-U64Le in
+    let d : data_of c.args.value.now ≡ uint x.n = ap data_of x.is-1 ∙ data_of-Uint x.n in
+    rw (f, d) (search rules)
+
+pub put-returns-in-I16Le-Int : goal.put-returns-in-I16Le-Int
+unfolding text_of
+put-returns-in-I16Le-Int t c =
+    let x = c.in-I16Le-Int in
+    let f : form c.args.shape.now ≡ signed Little S16 = ap form x.is-0 ∙ form-I16Le in
+    let d : data_of c.args.value.now ≡ int x.z = ap data_of x.is-1 ∙ data_of-Int x.z in
+    rw (f, d) (search rules)
+
+pub put-returns-in-I32Le-Int : goal.put-returns-in-I32Le-Int
+unfolding text_of
+put-returns-in-I32Le-Int t c =
+    let x = c.in-I32Le-Int in
+    let f : form c.args.shape.now ≡ signed Little S32 = ap form x.is-0 ∙ form-I32Le in
+    let d : data_of c.args.value.now ≡ int x.z = ap data_of x.is-1 ∙ data_of-Int x.z in
+    rw (f, d) (search rules)
+
+pub put-returns-in-I64Le-Int : goal.put-returns-in-I64Le-Int
+unfolding text_of
+put-returns-in-I64Le-Int t c =
+    let x = c.in-I64Le-Int in
+    let f : form c.args.shape.now ≡ signed Little S64 = ap form x.is-0 ∙ form-I64Le in
+    let d : data_of c.args.value.now ≡ int x.z = ap data_of x.is-1 ∙ data_of-Int x.z in
+    rw (f, d) (search rules)
+
+pub put-returns-in-FixedText-Text : goal.put-returns-in-FixedText-Text
+unfolding text_of
+put-returns-in-FixedText-Text t c =
+    let x = c.in-FixedText-Text in
+    let f : form c.args.shape.now ≡ padded x.encoding x.len = ap form x.is-0 ∙ form-FixedText x.encoding x.len in
+    let d : data_of c.args.value.now ≡ phrase (string_bytes x.text) = ap data_of x.is-1 ∙ data_of-Text x.text in
+    let is : is_utf8 (string_bytes x.text) ≡ true = is_utf8-from_IsUtf8 (string_bytes x.text) (IsUtf8-string_bytes x.text) in
+    rw (f, d, is) (search rules)
+
+pub put-returns-in-FramedFixed-List : goal.put-returns-in-FramedFixed-List
+unfolding text_of
+put-returns-in-FramedFixed-List t c =
+    let x = c.in-FramedFixed-List in
+    let f : form c.args.shape.now ≡ fixed (Some x.width) x.count (form x.element.value) = ap form x.is-0 ∙ form-FramedFixed x.width x.count x.element in
+    let d : data_of c.args.value.now ≡ list (data_of_all x.values.items) = ap data_of x.is-1 ∙ data_of-List x.values in
+    rw (f, d) (search rules)
+
+pub put-returns-in-SizedUnion-Union : goal.put-returns-in-SizedUnion-Union
+put-returns-in-SizedUnion-Union t c =
+    let x = c.in-SizedUnion-Union in
+    let f : form c.args.shape.now ≡ union x.width x.field (all_variants x.variants.items) = ap form x.is-0 ∙ form-SizedUnion x.width x.field x.variants in
+    let d : data_of c.args.value.now ≡ data_of_choice x.choice = ap data_of x.is-1 ∙ data_of-Union x.choice in
     rw (f, d) (search rules)

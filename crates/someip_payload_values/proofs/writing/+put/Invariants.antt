@@ -17,7 +17,7 @@ invariant-put_members-loop-i l =
 abbrev pub invariant-put_variant-loop-variant : goal.invariant-put_variant-loop-variant
 invariant-put_variant-loop-variant l =
     (l.out.items ≡ l.fn.out.items)
-    × (variant_text (all_variants (drop l.variant-index l.variants)) l.kind (data_of l.value) ≡ variant_text (all_variants l.variants) l.kind (data_of l.value))
+    × (variant_text l.width l.field (all_variants (drop l.variant-index l.variants)) l.kind (data_of l.value) ≡ variant_text l.width l.field (all_variants l.variants) l.kind (data_of l.value))
 
 abbrev pub invariant-put_slots-loop-i : goal.invariant-put_slots-loop-i
 invariant-put_slots-loop-i l =

@@ -1,29 +1,38 @@
 use Rattle.std.proofs.Common.{refl}
 use Rattle.someip_payload_values.specs.Check.{checked}
-use Rattle.someip_payload_codec.specs.Reading.{decoded, data_by, members_at, number_at}
+use Rattle.someip_payload_codec.specs.Reading.{decoded, data_by, members_at, ordered_at}
+use Rattle.someip_payload_values.specs.ValueText.{data_text}
 use Rattle.std.specs.Fmt.{digits}
 use Rattle.someipctl_show.proofs.types.laws.what_lines_say.Goals as goal
 
 pub returns-clause-value : goal.returns-clause-value
-unfolding checked decoded data_by members_at number_at digits
+unfolding checked decoded data_by members_at ordered_at data_text digits
 returns-clause-value c = refl
 
 pub returns-clause-front : goal.returns-clause-front
-unfolding checked decoded data_by members_at number_at digits
+unfolding checked decoded data_by members_at ordered_at data_text digits
 returns-clause-front c = refl
 
 pub returns-clause-fault : goal.returns-clause-fault
-unfolding checked decoded data_by members_at number_at digits
+unfolding checked decoded data_by members_at ordered_at data_text digits
 returns-clause-fault c = refl
 
 pub returns-clause-nameless : goal.returns-clause-nameless
-unfolding checked decoded data_by members_at number_at digits
+unfolding checked decoded data_by members_at ordered_at data_text digits
 returns-clause-nameless c = refl
 
 pub returns-clause-good : goal.returns-clause-good
-unfolding checked decoded data_by members_at number_at digits
+unfolding checked decoded data_by members_at ordered_at data_text digits
 returns-clause-good c = refl
 
 pub returns-clause-bad : goal.returns-clause-bad
-unfolding checked decoded data_by members_at number_at digits
+unfolding checked decoded data_by members_at ordered_at data_text digits
 returns-clause-bad c = refl
+
+pub returns-clause-named : goal.returns-clause-named
+unfolding checked decoded data_by members_at ordered_at data_text digits
+returns-clause-named c = refl
+
+pub returns-clause-unnamed : goal.returns-clause-unnamed
+unfolding checked decoded data_by members_at ordered_at data_text digits
+returns-clause-unnamed c = refl

@@ -1,5 +1,4 @@
-use Rattle.std.proofs.Common.{◌≡◌, ℕ, List, ◌++◌, append_assoc, sym}
-use Rattle.someipctl_show.proofs.about_types.DataTextLemmas.{value_text-data}
+use Rattle.std.proofs.Common.{◌≡◌, ℕ, List, ◌++◌, append_assoc}
 use Rattle.someipctl_show.proofs.types.value_line.put_read_line.Goals as goal
 
 -- a text to which six were added one after the other
@@ -9,6 +8,5 @@ six_added old a b c d e f t1 t2 t3 t4 t5 t6 e1 e2 e3 e4 e5 e6 = rw (e6, e5, e4, 
 
 pub returns : goal.returns
 returns c =
-    rw (sym (value_text-data c.args.value.now))
-    (six_added _ _ _ _ _ _ _ _ _ _ _ _ _ c.in_ok-put_number.ensures c.in_ok-push_str.ensures.bytes c.in_ok-put_name.ensures c.in_ok-write.ensures.bytes
-    c.in_ok-put_used.ensures c.in_ok-push_str-2.ensures.bytes)
+    six_added _ _ _ _ _ _ _ _ _ _ _ _ _ c.in_ok-put_number.ensures c.in_ok-push_str.ensures.bytes c.in_ok-put_name.ensures c.in_ok-write.ensures.bytes
+    c.in_ok-put_used.ensures c.in_ok-push_str-2.ensures.bytes

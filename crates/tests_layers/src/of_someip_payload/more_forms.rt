@@ -1,0 +1,176 @@
+//! The rows of little-endian numbers, texts in so many bytes, fixed counts and unions with widths of
+//! their own: what is read and written, at which fault it ends, and which shapes are refused.
+use super::{Read, Refused};
+use crate::rows::{Row, check};
+use someip_payload::{PayloadError, decode, read_shape};
+use std::alloc::Global;
+
+/// Both ways where the last is true.
+const READ: &[Read] = &[
+    Read("u16le", &[1, 0], "1", 2, true),
+    Read("u32le", &[1, 2, 0, 0], "513", 4, true),
+    Read(
+        "u64le",
+        &[0, 0, 0, 0, 0, 0, 0, 0x80],
+        "9223372036854775808",
+        8,
+        true,
+    ),
+    Read("i16le", &[0xfe, 0xff], "-2", 2, true),
+    Read("i32le", &[0, 0, 0, 0x80], "-2147483648", 4, true),
+    Read("i64le", &[0xff; 8], "-1", 8, true),
+    Read("struct(u16,u16le)", &[0, 1, 1, 0], "(1,1)", 4, true),
+    Read("tagged/8(1:u16le)", &[4, 0x10, 1, 2, 0], "{2}", 5, true),
+    Read("fixed/8<2,u16>", &[4, 0, 1, 0, 2], "[1,2]", 5, true),
+    Read("fixed/8<1,u8>", &[3, 7, 8, 9], "[7]", 4, false),
+    Read(
+        "tagged/8(1:fixed/8<2,u8>)",
+        &[5, 0x50, 1, 2, 7, 8],
+        "{[7,8]}",
+        6,
+        true,
+    ),
+    Read("union/8/8(1:u8)", &[1, 1, 7], "1:7", 3, true),
+    Read("union/8/16(1:u8)", &[1, 0, 1, 7], "1:7", 4, true),
+    Read("union/16/8(1:u8)", &[0, 0, 0], "none", 3, true),
+    Read(
+        "union/8/32(300:u8)",
+        &[1, 0, 0, 1, 0x2c, 5],
+        "300:5",
+        6,
+        true,
+    ),
+    Read(
+        "utf8fix<8>",
+        &[0xef, 0xbb, 0xbf, 0x41, 0, 0, 0, 0],
+        "\"A\"",
+        8,
+        true,
+    ),
+    Read("utf8fix<4>", &[0xef, 0xbb, 0xbf, 0], "\"\"", 4, true),
+    Read("utf8fix<4>", &[0x41, 0, 0xff, 0xff], "\"A\"", 4, false),
+    Read(
+        "utf16fix<8>",
+        &[0xfe, 0xff, 0, 0x41, 0, 0, 0, 0],
+        "\"A\"",
+        8,
+        true,
+    ),
+    Read(
+        "utf16fix<6>",
+        &[0xff, 0xfe, 0x41, 0, 0, 0],
+        "\"A\"",
+        6,
+        false,
+    ),
+];
+
+/// A shape, bytes of it, and the fault that they have.
+struct Faulty(&'static str, &'static [u8], PayloadError);
+
+impl Row for Faulty {
+    fn is_right(&self, alloc: Global) -> Option<bool> {
+        let Faulty(shape, bytes, fault) = self;
+        let shape = read_shape(alloc, shape).ok()?;
+        Some(decode(alloc, &shape, bytes).err() == Some(*fault))
+    }
+}
+
+const FAULTY: &[Faulty] = &[
+    Faulty("u16le", &[1], PayloadError::Truncated(0)),
+    Faulty(
+        "fixed/8<2,u16>",
+        &[3, 0, 1, 0, 2],
+        PayloadError::LengthMismatch(3),
+    ),
+    Faulty("fixed/8<2,u16>", &[4, 0, 1, 0], PayloadError::Truncated(0)),
+    Faulty("utf8fix<8>", b"ABCDEFGH", PayloadError::NoTerminator(0)),
+    Faulty("utf8fix<4>", &[0xff, 0, 0, 0], PayloadError::BadText(0)),
+    Faulty("utf8fix<4>", &[0x41, 0, 0], PayloadError::Truncated(0)),
+    Faulty(
+        "struct/8(u8,utf8fix<4>)",
+        &[4, 1, 0, 0, 0],
+        PayloadError::LengthMismatch(2),
+    ),
+    Faulty("utf16fix<4>", &[0, 0x41, 0, 0], PayloadError::BadText(0)),
+    Faulty(
+        "utf16fix<4>",
+        &[0xfe, 0xff, 0, 0x41],
+        PayloadError::NoTerminator(0),
+    ),
+    // The zero byte at 1 belongs to the unit 0x4100, which is no terminator.
+    Faulty(
+        "utf16fix<6>",
+        &[0xfe, 0xff, 0x41, 0, 0x42, 0],
+        PayloadError::NoTerminator(0),
+    ),
+    Faulty(
+        "union/8/8(1:u8)",
+        &[1, 2, 7],
+        PayloadError::UnknownVariant(1),
+    ),
+    Faulty(
+        "union/8/16(1:u8)",
+        &[1, 0, 0],
+        PayloadError::LengthMismatch(0),
+    ),
+    Faulty("union/8/16(1:u8)", &[1, 0], PayloadError::Truncated(1)),
+    Faulty("utf8fix<3>", &[], PayloadError::BadShape(0)),
+    Faulty("utf8fix<1048577>", &[], PayloadError::BadShape(0)),
+    Faulty("utf16fix<5>", &[], PayloadError::BadShape(0)),
+    Faulty("union/8/8(256:u8)", &[], PayloadError::BadShape(0)),
+    Faulty("union/8/16(65536:u8)", &[], PayloadError::BadShape(0)),
+    Faulty("tagged(1:utf8fix<4>)", &[], PayloadError::BadShape(0)),
+    Faulty("fixed/8<1,fixed<1,u8>>", &[], PayloadError::BadShape(0)),
+    Faulty("fixed<1,fixed/8<1,u8>>", &[], PayloadError::BadShape(0)),
+    Faulty("fixed/8<0,u8>", &[], PayloadError::BadShape(0)),
+];
+
+const REFUSED: &[Refused] = &[
+    // Mark, letter and terminator are five bytes.
+    Refused(
+        "utf8fix<4>",
+        "utf8/8",
+        &[2, 0x41, 0],
+        PayloadError::TooLong(0),
+    ),
+    Refused(
+        "utf16fix<4>",
+        "utf8/8",
+        &[2, 0x41, 0],
+        PayloadError::TooLong(0),
+    ),
+    // The text ends at its first U+0000 when it is read.
+    Refused(
+        "utf8fix<8>",
+        "utf8/8",
+        &[3, 0x41, 0, 0],
+        PayloadError::NotOfShape(0),
+    ),
+    Refused(
+        "fixed/8<2,u8>",
+        "fixed/8<1,u8>",
+        &[1, 7],
+        PayloadError::NotOfShape(0),
+    ),
+    Refused(
+        "fixed/8<256,u8>",
+        "fixed<256,u8>",
+        &[0; 256],
+        PayloadError::TooLong(0),
+    ),
+    Refused(
+        "union/8/8(1:u8)",
+        "union(256:u8)",
+        &[0, 0, 0, 1, 0, 0, 1, 0, 7],
+        PayloadError::UnknownVariant(0),
+    ),
+    Refused("u16le", "u32", &[0, 1, 0, 0], PayloadError::NotOfShape(0)),
+];
+
+#[test]
+fn more_forms(rt: HostRuntime) {
+    check(&rt, rt.alloc(), "READ", READ);
+    check(&rt, rt.alloc(), "FAULTY", FAULTY);
+    check(&rt, rt.alloc(), "REFUSED", REFUSED);
+}
