@@ -48,7 +48,14 @@ const READ: &[Read] = &[
         true,
     ),
     Read("utf8fix<4>", &[0xef, 0xbb, 0xbf, 0], "\"\"", 4, true),
-    Read("utf8fix<4>", &[0x41, 0, 0xff, 0xff], "\"A\"", 4, false),
+    // What stands after the terminator is not looked at, though it is no text.
+    Read(
+        "utf8fix<6>",
+        &[0x41, 0, 0xff, 0xff, 0xff, 0xff],
+        "\"A\"",
+        6,
+        false,
+    ),
     Read(
         "utf16fix<8>",
         &[0xfe, 0xff, 0, 0x41, 0, 0, 0, 0],
@@ -62,6 +69,40 @@ const READ: &[Read] = &[
         "\"A\"",
         6,
         false,
+    ),
+];
+
+/// With names: they change the text alone.
+const NAMED: &[Read] = &[
+    Read(
+        "struct(speed:u16,level:u8)",
+        &[0, 42, 3],
+        "(speed=42,level=3)",
+        3,
+        true,
+    ),
+    Read("struct(speed:u16,u8)", &[0, 42, 3], "(speed=42,3)", 3, true),
+    Read("struct(u8:u16)", &[1, 0], "(u8=256)", 2, true),
+    Read(
+        "struct(at:struct(x:i8,y:i8),all:array/8<2,u8>)",
+        &[1, 0xff, 2, 7, 8],
+        "(at=(x=1,y=-1),all=[7,8])",
+        5,
+        true,
+    ),
+    Read(
+        "tagged/8(speed:1:u16,level:2?:u8)",
+        &[4, 0x10, 1, 0, 42],
+        "{speed=42,level=-}",
+        5,
+        true,
+    ),
+    Read(
+        "union/8/8(1:struct(a:u8),2:u8)",
+        &[1, 1, 7],
+        "1:(a=7)",
+        3,
+        true,
     ),
 ];
 
@@ -124,6 +165,18 @@ const FAULTY: &[Faulty] = &[
     Faulty("fixed/8<1,fixed<1,u8>>", &[], PayloadError::BadShape(0)),
     Faulty("fixed<1,fixed/8<1,u8>>", &[], PayloadError::BadShape(0)),
     Faulty("fixed/8<0,u8>", &[], PayloadError::BadShape(0)),
+    Faulty("struct(a:u8,a:u8)", &[], PayloadError::BadShape(0)),
+    Faulty(
+        "tagged(a:1:u8,u8:2:u8,a:3:u8)",
+        &[],
+        PayloadError::BadShape(0),
+    ),
+    // Names count only within their own structure.
+    Faulty(
+        "struct(a:u8,struct(a:u8))",
+        &[1],
+        PayloadError::Truncated(1),
+    ),
 ];
 
 const REFUSED: &[Refused] = &[
@@ -171,6 +224,7 @@ const REFUSED: &[Refused] = &[
 #[test]
 fn more_forms(rt: HostRuntime) {
     check(&rt, rt.alloc(), "READ", READ);
+    check(&rt, rt.alloc(), "NAMED", NAMED);
     check(&rt, rt.alloc(), "FAULTY", FAULTY);
     check(&rt, rt.alloc(), "REFUSED", REFUSED);
 }
