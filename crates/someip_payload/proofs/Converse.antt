@@ -1,5 +1,5 @@
 -- Each text of a shape is read as it: what stands in a text, part by part.
-use Rattle.std.proofs.Common.{◌≡◌, ℕ, ◌+◌, ◌<◌, ◌≤◌, ⊎_elim, IsErrAnd, false, List, [], ◌∷◌, ◌++◌, length, drop, codes, Option, Some, None, refl, sym, ap, subst, ◌∙◌, append_assoc, arith}
+use Rattle.std.proofs.Common.{◌≡◌, ℕ, ◌+◌, ◌<◌, ◌≤◌, inl, inr, ⊎_elim, IsErrAnd, false, List, [], ◌∷◌, ◌++◌, length, drop, codes, Option, Some, None, refl, sym, ap, subst, ◌∙◌, append_assoc, arith}
 use Rattle.std.specs.Prelude.{Result, Ok, Err}
 use Rattle.std.specs.Fmt.{decimal}
 use Rattle.std.proofs.lemmas.Result.{err_from_is_err_and}
@@ -15,8 +15,8 @@ use Rattle.someip_payload.specs.declared.words.Word.TheVariants as word
 use Rattle.someip_payload.specs.declared.shape_text_error.ShapeTextError.{ShapeTextError}
 use Rattle.someip_payload.specs.declared.shape_text_error.ShapeTextError.TheVariants.{BadShape, OutOfMemory}
 use Rattle.someip_payload_values.specs.Check.{depth, is_later}
-use Rattle.someip_payload_values.specs.Data.{Form}
-use Rattle.someip_payload.specs.ShapeText.{IsInteger, u8_text, u16_text, u32_text, u64_text, i8_text, i16_text, i32_text, i64_text, u16le_text, u32le_text, u64le_text, i16le_text, i32le_text, i64le_text, IsTextOf, bool_text, integer_text, utf8_text, utf16_text, utf8fix_text, utf16fix_text, array_text, fixed_text, struct_text, union_text, tagged_text, width_text, widths_text, room_text, repeated_text, IsDigit, HasNoWidth, EndsWord, EndsShape, IsReadTo}
+use Rattle.someip_payload_values.specs.Data.{Form, enumerated}
+use Rattle.someip_payload.specs.ShapeText.{IsInteger, u8_text, u16_text, u32_text, u64_text, i8_text, i16_text, i32_text, i64_text, u16le_text, u32le_text, u64le_text, i16le_text, i32le_text, i64le_text, IsTextOf, bool_text, integer_text, enum_text, utf8_text, utf16_text, utf8fix_text, utf16fix_text, array_text, fixed_text, struct_text, union_text, tagged_text, width_text, widths_text, room_text, repeated_text, IsDigit, HasNoWidth, EndsWord, EndsShape, IsReadTo}
 use Rattle.someip_payload_values.specs.View.{form}
 use Rattle.someip_payload.specs.Words.{integer_form, integer_word, word_text, Behind}
 use Rattle.someip_payload.proofs.Places.{behind_piece}
@@ -116,6 +116,9 @@ slash = (refl, λ h. omega (arith, h))
 bracket : WordEnd 40
 bracket = (refl, λ h. omega (arith, h))
 
+brace : WordEnd 123
+brace = (refl, λ h. omega (arith, h))
+
 angle : WordEnd 60
 angle = (refl, λ h. omega (arith, h))
 
@@ -136,7 +139,8 @@ behind_width w back inside rest is ends =
 
 pub behind_ends : (w : Word) (f : Form) (back rest : List ℕ) → Behind w f back → EndsShape rest → EndsWord (back ++ rest)
 behind_ends word.Bool f back rest behind stops = subst EndsWord (sym (ap (λ (t : List ℕ). t ++ rest) behind.1)) (ends_word rest stops)
-behind_ends (word.Integer i) f back rest behind stops = subst EndsWord (sym (ap (λ (t : List ℕ). t ++ rest) behind.1)) (ends_word rest stops)
+behind_ends (word.Integer i) f back rest behind stops =
+    ⊎_elim (λ own. subst EndsWord (sym (ap (λ (t : List ℕ). t ++ rest) own.1)) (ends_word rest stops)) (λ own. subst EndsWord (sym (ap (λ (t : List ℕ). t ++ rest) own.4)) brace) behind
 behind_ends (word.Text e) f back rest behind stops = subst EndsWord (sym (ap (λ (t : List ℕ). t ++ rest) behind.2)) (after_width_ends behind.0 rest (ends_word rest stops))
 behind_ends (word.FixedText e) f back rest behind stops = subst EndsWord (sym (ap (λ (t : List ℕ). t ++ rest) behind.3)) angle
 behind_ends word.Array f back rest behind stops = behind_width behind.0 back (repeated_text behind.1 behind.3) rest behind.7 angle
@@ -159,7 +163,11 @@ pub split : (f : Form) (text : List ℕ) → IsTextOf f text → Split f text
 split f text bool_text = record { first = word.Bool; back = []; is = refl; behind = (refl, refl) }
 split f text (integer_text g bytes is) =
     let own = integer_of g bytes is in
-    record { first = word.Integer own.0; back = []; is = own.2 ∙ sym (append-nil (integer_word own.0)); behind = (own.1, refl) }
+    record { first = word.Integer own.0; back = []; is = own.2 ∙ sym (append-nil (integer_word own.0)); behind = inl (own.1, refl) }
+split f text (enum_text g bytes ls inside is are) =
+    let own = integer_of g bytes is in
+    let whole : bytes ++ (codes "{" ++ (inside ++ codes "}")) ≡ integer_word own.0 ++ (codes "{" ++ (inside ++ codes "}")) = ap (λ (t : List ℕ). t ++ (codes "{" ++ (inside ++ codes "}"))) own.2 in
+    record { first = word.Integer own.0; back = _; is = whole; behind = inr (ls, inside, are, ap (λ (h : Form). enumerated h ls) own.1, refl) }
 split f text (utf8_text w) = record { first = word.Text Utf8; back = width_text w; is = refl; behind = (w, refl, refl) }
 split f text (utf16_text w) = record { first = word.Text Utf16; back = width_text w; is = refl; behind = (w, refl, refl) }
 split f text (utf8fix_text n small) = record { first = word.FixedText Utf8; back = room_text n; is = refl; behind = (n, small, refl, refl) }

@@ -64,9 +64,33 @@ digit_first (d ∷ ds) tail rest some digit = no_first d digit
 pub number_first : (n : ℕ) (tail rest : List ℕ) → n < 2 ^ 64 → BeginsNoName ((decimal n ++ tail) ++ rest)
 number_first n tail rest small = digit_first (decimal n) tail rest (decimal_nonempty n small) ((decimal_parts n small).digits 0 (decimal_nonempty n small))
 
+-- a number whose digits are those of another one and one more
+same_snoc : (xs ys : List ℕ) (a b : ℕ) → xs ++ a ∷ [] ≡ ys ++ b ∷ [] → (xs ≡ ys) × (a ≡ b)
+same_snoc [] [] a b is = (refl, cc)
+same_snoc [] (y ∷ ys) a b is = absurd (omega (arith, ap length is, length-append ys (b ∷ [])))
+same_snoc (x ∷ xs) [] a b is = absurd (omega (arith, ap length is, length-append xs (a ∷ [])))
+same_snoc (x ∷ xs) (y ∷ ys) a b is =
+    let tail : xs ++ a ∷ [] ≡ ys ++ b ∷ [] = cc in
+    let head : x ≡ y = cc in
+    let rest = same_snoc xs ys a b tail in
+    (λ i. head i ∷ rest.0 i, rest.1)
+
+value_of_digits : (n m d : ℕ) → n < 2 ^ 64 → m < 2 ^ 64 → d < 10 → decimal n ≡ decimal m ++ (48 + d) ∷ [] → n ≡ m * 10 + d
+value_of_digits n m d small less small_digit is = ⊎_elim short long (cases_lt n 10)
+  where
+    short : n < 10 → n ≡ m * 10 + d
+    short lt = absurd (omega (arith, ap length (decimal_digit n lt), ap length is, length-append (decimal m) ((48 + d) ∷ []), decimal_nonempty m less))
+
+    long : 10 ≤ n → n ≡ m * 10 + d
+    long le =
+        let parts = same_snoc (decimal (n / 10)) (decimal m) (48 + n % 10) (48 + d) (sym (decimal_step n le small) ∙ is) in
+        let high : n / 10 ≡ m = decimal_injective (n / 10) m (omega (arith, small)) less parts.0 in
+        let low : n % 10 ≡ d = omega (arith, parts.1) in
+        omega (arith, high, low)
+
 -- ---- a number n at the front of the bytes, after which no digit stands
 
-module _ (n b : ℕ) (rest bytes : List ℕ) (small : n < 2 ^ 32) (stop : IsDigit b → ⊥) (is : bytes ≡ decimal n ++ b ∷ rest) where
+module _ (n b : ℕ) (rest bytes : List ℕ) (small : n < 2 ^ 64) (stop : IsDigit b → ⊥) (is : bytes ≡ decimal n ++ b ∷ rest) where
   fits : n < 2 ^ 64
   fits = omega (arith, small)
 
@@ -77,7 +101,7 @@ module _ (n b : ℕ) (rest bytes : List ℕ) (small : n < 2 ^ 32) (stop : IsDigi
   inside i lt = ap (λ (t : List ℕ). get_or t i 0) is ∙ get_or_append_left (decimal n) (b ∷ rest) 0 i lt
 
   -- digits at the front end where the number does, or before
-  within : (m k : ℕ) → m < 2 ^ 32 → length (decimal m) ≡ k → take k bytes ≡ decimal m → k ≤ length (decimal n)
+  within : (m k : ℕ) → m < 2 ^ 64 → length (decimal m) ≡ k → take k bytes ≡ decimal m → k ≤ length (decimal n)
   within m k less len front = ⊎_elim (λ past. absurd (beyond past)) (λ le. le) (cases_lt (length (decimal n)) k)
     where
       beyond : length (decimal n) < k → ⊥
@@ -88,7 +112,7 @@ module _ (n b : ℕ) (rest bytes : List ℕ) (small : n < 2 ^ 32) (stop : IsDigi
           stop (subst IsDigit same digit)
 
   -- no digit follows: it is the number
-  pub is_number : (m k : ℕ) → m < 2 ^ 32 → length (decimal m) ≡ k → take k bytes ≡ decimal m → (k < length bytes → IsDigit (get_or bytes k 0) → ⊥) → (m ≡ n) × (k ≡ length (decimal n))
+  pub is_number : (m k : ℕ) → m < 2 ^ 64 → length (decimal m) ≡ k → take k bytes ≡ decimal m → (k < length bytes → IsDigit (get_or bytes k 0) → ⊥) → (m ≡ n) × (k ≡ length (decimal n))
   is_number m k less len front last = ⊎_elim (λ short. absurd (before short)) (λ le. whole (omega (arith, within m k less len front, le))) (cases_lt k (length (decimal n)))
     where
       before : k < length (decimal n) → ⊥
@@ -127,7 +151,7 @@ module _ (n b : ℕ) (rest bytes : List ℕ) (small : n < 2 ^ 32) (stop : IsDigi
           stop (subst IsDigit (ap (λ j. get_or bytes j 0) same ∙ behind) digit)
 
   -- a digit that makes the number too large
-  pub not_too_large : (m k d : ℕ) → 0 < m → m < 2 ^ 32 → d < 10 → n < m * 10 + d → length (decimal m) ≡ k → take k bytes ≡ decimal m → k < length bytes → get_or bytes k 0 ≡ 48 + d → ⊥
+  pub not_too_large : (m k d : ℕ) → 0 < m → m < 2 ^ 64 → d < 10 → n < m * 10 + d → length (decimal m) ≡ k → take k bytes ≡ decimal m → k < length bytes → get_or bytes k 0 ≡ 48 + d → ⊥
   not_too_large m k d some less small_digit large len front lt digit = ⊎_elim inner (λ le. ends (omega (arith, within m k less len front, le))) (cases_lt k (length (decimal n)))
     where
       is_digit : IsDigit (get_or bytes k 0)
@@ -139,18 +163,15 @@ module _ (n b : ℕ) (rest bytes : List ℕ) (small : n < 2 ^ 32) (stop : IsDigi
       inner : k < length (decimal n) → ⊥
       inner short =
           let parts = (decimal_parts n fits).fronts (k + 1) (omega arith) (omega (arith, short)) in
-          let high : (m * 10 + d) / 10 ≡ m = omega (arith, small_digit) in
-          let low : (m * 10 + d) % 10 ≡ d = omega (arith, small_digit) in
-          let step : decimal (m * 10 + d) ≡ decimal m ++ (48 + d) ∷ [] = rw (decimal_step (m * 10 + d) (omega (arith, some)) (omega (arith, less, small_digit)), high, low) refl in
           let longer : take (k + 1) bytes ≡ decimal m ++ (48 + d) ∷ [] = rw (take_more bytes k 0 lt, front, digit) refl in
           let of_n : take (k + 1) bytes ≡ take (k + 1) (decimal n) = ap (take (k + 1)) is ∙ take-append-le (k + 1) (decimal n) (b ∷ rest) (omega (arith, short)) in
-          let same : decimal parts.0 ≡ decimal (m * 10 + d) = sym parts.2 ∙ sym of_n ∙ longer ∙ sym step in
-          let value = decimal_injective parts.0 (m * 10 + d) (omega (arith, parts.1, small)) (omega (arith, less, small_digit)) same in
-          omega (arith, value, parts.1, small, large)
+          let same : decimal parts.0 ≡ decimal m ++ (48 + d) ∷ [] = sym parts.2 ∙ sym of_n ∙ longer in
+          let value = value_of_digits parts.0 m d (omega (arith, parts.1, small)) less small_digit same in
+          omega (arith, value, parts.1, large)
 
 -- ---- the same between two places of a text
 
-module _ (text : List ℕ) (at end n b : ℕ) (rest : List ℕ) (small : n < 2 ^ 32) (stop : IsDigit b → ⊥) (is : drop at text ≡ decimal n ++ b ∷ rest) (le : at ≤ end) (bound : end ≤ length text) where
+module _ (text : List ℕ) (at end n b : ℕ) (rest : List ℕ) (small : n < 2 ^ 64) (stop : IsDigit b → ⊥) (is : drop at text ≡ decimal n ++ b ∷ rest) (le : at ≤ end) (bound : end ≤ length text) where
   same_place : at + (end - at) ≡ end
   same_place = omega (arith, le)
 
@@ -166,7 +187,7 @@ module _ (text : List ℕ) (at end n b : ℕ) (rest : List ℕ) (small : n < 2 ^
       let is_digit : IsDigit (get_or (drop at text) (end - at) 0) = (omega (arith, here, digit), omega (arith, here, digit, small_digit)) in
       no_leading_zero n b rest (drop at text) small stop is (end - at) (omega (arith, lt)) (digits_len 0 zero_front) zero_front is_digit
 
-  pub too_large_at : (m d : ℕ) → 0 < m → m < 2 ^ 32 → slice_range text at end ≡ decimal m → d < 10 → get_or text end 0 ≡ 48 + d → end < length text → n < m * 10 + d → ⊥
+  pub too_large_at : (m d : ℕ) → 0 < m → m < 2 ^ 64 → slice_range text at end ≡ decimal m → d < 10 → get_or text end 0 ≡ 48 + d → end < length text → n < m * 10 + d → ⊥
   too_large_at m d some less front small_digit digit inside_text large =
       not_too_large n b rest (drop at text) small stop is m (end - at) d some less small_digit large (digits_len m front) front (omega (arith, le, inside_text, length-drop at text)) (here ∙ digit)
 
@@ -175,7 +196,25 @@ module _ (text : List ℕ) (at end n b : ℕ) (rest : List ℕ) (small : n < 2 ^
       let first : get_or (drop at text) 0 0 ≡ get_or text at 0 = get_or-drop at text 0 0 ∙ ap (λ i. get_or text i 0) (omega arith) in
       has_digit n b rest (drop at text) small stop is (λ lt d. last (omega (arith, lt, length-drop at text)) (subst IsDigit first d))
 
-  pub number_is : (m : ℕ) → m < 2 ^ 32 → slice_range text at end ≡ decimal m → (end < length text → IsDigit (get_or text end 0) → ⊥) → (m ≡ n) × (end ≡ at + length (decimal n))
+  pub number_is : (m : ℕ) → m < 2 ^ 64 → slice_range text at end ≡ decimal m → (end < length text → IsDigit (get_or text end 0) → ⊥) → (m ≡ n) × (end ≡ at + length (decimal n))
   number_is m less front last =
       let read = is_number n b rest (drop at text) small stop is m (end - at) less (digits_len m front) front (λ lt d. last (omega (arith, lt, le, length-drop at text)) (subst IsDigit here d)) in
       (read.0, omega (arith, le, read.1))
+
+-- ---- what a number begins with
+
+-- its first digit, where it stands in a text
+first_there : (text tail : List ℕ) (at n : ℕ) → n < 2 ^ 64 → drop at text ≡ decimal n ++ tail → get_or text at 0 ≡ get_or (decimal n) 0 0
+first_there text tail at n small is =
+    let here : get_or (drop at text) 0 0 ≡ get_or text at 0 = get_or-drop at text 0 0 ∙ ap (λ i. get_or text i 0) (omega arith) in
+    sym here ∙ ap (λ (t : List ℕ). get_or t 0 0) is ∙ get_or_append_left (decimal n) tail 0 0 (decimal_nonempty n small)
+
+-- a zero, of a number above it
+pub no_zero_first : (text tail : List ℕ) (at n : ℕ) → 0 < n → n < 2 ^ 64 → drop at text ≡ decimal n ++ tail → get_or text at 0 ≡ 48 → ⊥
+no_zero_first text tail at n some small is zero_first = let high = first_decimal n some small in omega (arith, high, first_there text tail at n small is, zero_first)
+
+-- no minus sign
+pub no_minus_first : (text tail : List ℕ) (at n : ℕ) → n < 2 ^ 64 → drop at text ≡ decimal n ++ tail → get_or text at 0 ≡ 45 → ⊥
+no_minus_first text tail at n small is minus =
+    let digit = (decimal_parts n small).digits 0 (decimal_nonempty n small) in
+    omega (arith, digit.0, first_there text tail at n small is, minus)

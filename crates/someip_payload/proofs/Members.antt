@@ -1,12 +1,13 @@
 -- The members of a structure, the variants of a union and the members of a tagged structure, as items one after the other.
-use Rattle.std.proofs.Common.{ℕ, List, ◌++◌, codes, refl, sym, subst}
+use Rattle.std.proofs.Common.{ℕ, List, [], ◌∷◌, ◌++◌, String, Global, codes, inl, inr, refl, sym, subst, arith}
+use Rattle.std.specs.Prelude.{ℤ}
 use Rattle.std.specs.Fmt.{decimal}
 use Rattle.someip_payload_values.specs.declared.shape.Shape.{Shape}
 use Rattle.someip_payload_values.specs.declared.shape.Member.{Member}
 use Rattle.someip_payload_values.specs.Check.{depth, deepest, deepest_variant, deepest_member}
 use Rattle.someip_payload_values.specs.Data.{Form, Forms, no_forms, form_then, Variants, no_variants, variant, Members, no_members, member_then}
-use Rattle.someip_payload_values.specs.View.{form, forms, all_variants, OneMember, one_member, all_members}
-use Rattle.someip_payload.specs.ShapeText.{IsTextOfMember, IsTextOfMembers, last_member, next_member, IsTextOfVariants, last_variant, next_variant, OneVariant, one_variant, IsTextOfVariant, IsTextOfTaggedMembers, last_tagged, next_tagged, IsTextOfTaggedMember}
+use Rattle.someip_payload_values.specs.View.{form, forms, all_variants, OneMember, one_member, all_members, labels_of}
+use Rattle.someip_payload.specs.ShapeText.{EndsName, IsTextOfLabel, IsTextOfLabels, last_label, next_label, one_label, EndsShape, IsTextOfMember, IsTextOfMembers, last_member, next_member, IsTextOfVariants, last_variant, next_variant, OneVariant, one_variant, IsTextOfVariant, IsTextOfTaggedMembers, last_tagged, next_tagged, IsTextOfTaggedMember}
 use Rattle.someip_payload.proofs.OneAfterOther.{ByFirst, Listing}
 
 -- ---- members
@@ -34,6 +35,11 @@ members = record {
   deepest_of = deepest;
   deepest-none = refl;
   deepest-in_front = λ f fs. refl;
+  close = 41;
+  no_comma = λ e. omega (arith, e);
+  Stops = EndsShape;
+  stops-comma = λ rest. inl refl;
+  stops-close = λ rest. inr (inl refl);
 }
 
 -- ---- variants
@@ -74,6 +80,11 @@ variants = record {
   deepest_of = deepest_variant;
   deepest-none = refl;
   deepest-in_front = λ v vs. refl;
+  close = 41;
+  no_comma = λ e. omega (arith, e);
+  Stops = EndsShape;
+  stops-comma = λ rest. inl refl;
+  stops-close = λ rest. inr (inl refl);
 }
 
 -- ---- members of a tagged structure
@@ -113,4 +124,40 @@ tagged_members = record {
   deepest_of = deepest_member;
   deepest-none = refl;
   deepest-in_front = λ m ms. refl;
+  close = 41;
+  no_comma = λ e. omega (arith, e);
+  Stops = EndsShape;
+  stops-comma = λ rest. inl refl;
+  stops-close = λ rest. inr (inl refl);
+}
+
+-- ---- values and their names
+
+pub first_label : ByFirst (ℤ × List ℕ) (List (ℤ × List ℕ)) (λ l ls. l ∷ ls) [] IsTextOfLabel IsTextOfLabels
+first_label P last next ls text (last_label l own is) = last l own is
+first_label P last next ls text (next_label l ks own others is are) = next l ks own others is are
+
+abbrev pub labels : Listing
+labels = record {
+  Item = ℤ × String Global;
+  One = ℤ × List ℕ;
+  All = List (ℤ × List ℕ);
+  one = one_label;
+  all = labels_of;
+  in_front = λ l ls. l ∷ ls;
+  all-in_front = λ l ls. refl;
+  IsText = IsTextOfLabel;
+  AreText = IsTextOfLabels;
+  last_text = last_label;
+  next_text = next_label;
+  by_first = first_label;
+  depth_of = λ l. 0;
+  deepest_of = λ ls. 0;
+  deepest-none = refl;
+  deepest-in_front = λ l ls. refl;
+  close = 125;
+  no_comma = λ e. omega (arith, e);
+  Stops = EndsName;
+  stops-comma = λ rest. refl;
+  stops-close = λ rest. refl;
 }

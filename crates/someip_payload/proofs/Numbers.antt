@@ -11,7 +11,7 @@ first_digit text at end number digit next first lt none is small sum =
     rw (value, first, slice_range-byte text end lt, is, decimal_digit digit small)
 
 pub next_digit : (text : List ℕ) (at end number digit next : ℕ) → at ≤ end → end < length text → slice_range text at end ≡ decimal number → 0 < number
-    → get_or text end 0 ≡ 48 + digit → digit < 10 → next ≡ number * 10 + digit → next < 2 ^ 32 → slice_range text at (end + 1) ≡ decimal next
+    → get_or text end 0 ≡ 48 + digit → digit < 10 → next ≡ number * 10 + digit → next < 2 ^ 64 → slice_range text at (end + 1) ≡ decimal next
 next_digit text at end number digit next le lt so_far some is small sum fits =
     let more : 10 ≤ next = omega arith in
     let below : next < 2 ^ 64 = omega arith in

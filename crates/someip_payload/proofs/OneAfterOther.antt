@@ -3,7 +3,7 @@ use Rattle.std.proofs.Common.{◌≡◌, ℕ, ◌+◌, ◌<◌, ◌≤◌, ◌�
 use Rattle.std.proofs.lemmas.Bool.{false≢true}
 use Rattle.std.proofs.lemmas.List.{length-append, get_or-drop}
 use Rattle.someip_payload.specs.declared.shape_text_error.ShapeTextError.{ShapeTextError}
-use Rattle.someip_payload.specs.ShapeText.{EndsShape, IsReadTo}
+use Rattle.someip_payload.specs.ShapeText.{IsReadTo}
 use Rattle.someip_payload.proofs.Converse.{fault_of, not_read}
 use Rattle.someip_payload.proofs.Places.{behind_piece}
 use Rattle.someip_payload.proofs.Pieces.{slice_range-byte, slice_range-append, slice_range-empty}
@@ -33,6 +33,12 @@ pub record Listing : Type 1 where
   pub deepest_of : All → ℕ
   pub deepest-none : deepest_of (all []) ≡ 0
   pub deepest-in_front : (x : One) (xs : All) → deepest_of (in_front x xs) ≡ max (depth_of x) (deepest_of xs)
+  -- the bracket after the last item, and what may stand after an item
+  pub close : ℕ
+  pub no_comma : close ≡ 44 → ⊥
+  pub Stops : List ℕ → Type 0
+  pub stops-comma : (rest : List ℕ) → Stops (44 ∷ rest)
+  pub stops-close : (rest : List ℕ) → Stops (close ∷ rest)
 
 -- a byte at the front of a text from a place on
 byte_there : (text rest : List ℕ) (b at : ℕ) → drop at text ≡ b ∷ rest → get_or text at 0 ≡ b
@@ -42,7 +48,7 @@ byte_there text rest b at is =
     ap (λ n. get_or text n 0) (sym same) ∙ sym here ∙ ap (λ (t : List ℕ). get_or t 0 0) is
 
 module _ (k : Listing) where
-  open k use {Item, One, All, one, all, in_front, all-in_front, IsText, AreText, last_text, next_text, by_first, depth_of, deepest_of, deepest-none, deepest-in_front}
+  open k use {Item, One, All, one, all, in_front, all-in_front, IsText, AreText, last_text, next_text, by_first, depth_of, deepest_of, deepest-none, deepest-in_front, close, no_comma, Stops, stops-comma, stops-close}
 
   -- what these items and the others after them stand for
   abbrev pub before : List Item → All → All
@@ -88,13 +94,13 @@ module _ (k : Listing) where
 
   -- what is read at a place, where an item stands there
   abbrev pub ItemOnly : List ℕ → ℕ → ℕ → Result (Item × ℕ) ShapeTextError → Type 0
-  ItemOnly text most next r = (x : One) (front tail : List ℕ) → drop next text ≡ front ++ tail → IsText x front → depth_of x ≤ most → EndsShape tail → IsReadTo one x (next + length front) r
+  ItemOnly text most next r = (x : One) (front tail : List ℕ) → drop next text ≡ front ++ tail → IsText x front → depth_of x ≤ most → Stops tail → IsReadTo one x (next + length front) r
 
   module _ (text : List ℕ) (most stop : ℕ) (xs : All) (rest : List ℕ) where
     -- others at a place, where these were read
     pub record Others (ss : List Item) (next : ℕ) (ys : All) (others : List ℕ) : Type 0 where
       pub is : xs ≡ before ss ys
-      pub there : drop next text ≡ others ++ (codes ")" ++ rest)
+      pub there : drop next text ≡ others ++ (close ∷ rest)
       pub deep : deepest_of ys ≤ most
       pub place : next + length others ≡ stop
 
@@ -108,7 +114,7 @@ module _ (k : Listing) where
     -- all were read, and the bracket stands here
     record Ended (ss : List Item) (end : ℕ) : Type 0 where
       is : all ss ≡ xs
-      bracket : drop end text ≡ 41 ∷ rest
+      bracket : drop end text ≡ close ∷ rest
       place : end ≡ stop
 
     -- a comma stands here, and others after it
@@ -131,9 +137,9 @@ module _ (k : Listing) where
     only_one : (ss : List Item) (next : ℕ) (r : Result (Item × ℕ) ShapeTextError) → ItemOnly text most next r → (x : One) (own : List ℕ) → IsText x own → Others ss next (in_front x (all [])) own → After ss r
     only_one ss next r only x own is h =
         let deep : depth_of x ≤ most = omega (arith, h.deep, deepest-in_front x (all [])) in
-        after ss x (next + length own) r (only x own (41 ∷ rest) h.there is deep (inr (inl refl))) (λ s end same place. inl (record {
+        after ss x (next + length own) r (only x own (close ∷ rest) h.there is deep (stops-close rest)) (λ s end same place. inl (record {
           is = sym (before-none (ss ++ s ∷ [])) ∙ before-more ss s (all []) ∙ ap (λ (o : One). before ss (in_front o (all []))) same ∙ sym h.is;
-          bracket = behind_piece text own (41 ∷ rest) next end h.there place;
+          bracket = behind_piece text own (close ∷ rest) next end h.there place;
           place = omega (arith, place, h.place);
         }))
 
@@ -141,10 +147,10 @@ module _ (k : Listing) where
     and_others : (ss : List Item) (next : ℕ) (r : Result (Item × ℕ) ShapeTextError) → ItemOnly text most next r
         → (x : One) (ys : All) (own others : List ℕ) → IsText x own → AreText ys others → Others ss next (in_front x ys) (own ++ (codes "," ++ others)) → After ss r
     and_others ss next r only x ys own others is are h =
-        let tail : List ℕ = others ++ (codes ")" ++ rest) in
-        let there : drop next text ≡ own ++ (44 ∷ tail) = h.there ∙ append_assoc own (codes "," ++ others) (codes ")" ++ rest) in
+        let tail : List ℕ = others ++ (close ∷ rest) in
+        let there : drop next text ≡ own ++ (44 ∷ tail) = h.there ∙ append_assoc own (codes "," ++ others) (close ∷ rest) in
         let deep : (depth_of x ≤ most) × (deepest_of ys ≤ most) = (omega (arith, h.deep, deepest-in_front x ys), omega (arith, h.deep, deepest-in_front x ys)) in
-        after ss x (next + length own) r (only x own (44 ∷ tail) there is deep.0 (inl refl)) (λ s end same place.
+        after ss x (next + length own) r (only x own (44 ∷ tail) there is deep.0 (stops-comma tail)) (λ s end same place.
         let comma = behind_piece text own (44 ∷ tail) next end there place in
         let here : Others (ss ++ s ∷ []) (end + 1) ys others = record {
           is = h.is ∙ ap (λ (o : One). before ss (in_front o ys)) (sym same) ∙ sym (before-more ss s ys);
@@ -162,7 +168,7 @@ module _ (k : Listing) where
 
   -- what holds of all items, where their text and a bracket stand at a place
   abbrev pub WhereAll : List ℕ → ℕ → ℕ → (All → ℕ → List ℕ → Type 0) → Type 0
-  WhereAll text at most P = (xs : All) (whole rest : List ℕ) → drop at text ≡ whole ++ (codes ")" ++ rest) → AreText xs whole → deepest_of xs ≤ most → P xs (length whole) rest
+  WhereAll text at most P = (xs : All) (whole rest : List ℕ) → drop at text ≡ whole ++ (close ∷ rest) → AreText xs whole → deepest_of xs ≤ most → P xs (length whole) rest
 
   -- what is read there
   abbrev pub AllOnly : List ℕ → ℕ → ℕ → Result (Vec Item Global × ℕ) ShapeTextError → Type 0
@@ -212,14 +218,14 @@ module _ (k : Listing) where
             inside = omega (arith, comma.0);
             so_far = rw piece (so_far-more ss s (slice_range text at next) (slice_range text next end) h.so_far is);
             left = λ xs whole rest there are deep.
-                ⊎_elim (λ (d : Ended text most (at + length whole) xs rest (ss ++ s ∷ []) end). absurd (omega (arith, comma.1, byte_there text rest 41 end d.bracket))) (λ (g : GoesOn text most (at + length whole) xs rest (ss ++ s ∷ []) end). g.left)
+                ⊎_elim (λ (d : Ended text most (at + length whole) xs rest (ss ++ s ∷ []) end). absurd (no_comma (sym (byte_there text rest close end d.bracket) ∙ comma.1))) (λ (g : GoesOn text most (at + length whole) xs rest (ss ++ s ∷ []) end). g.left)
                 (next_step (Ok (s, end)) only xs whole rest there are deep);
             within = deepest-push ss s most h.within within;
           })
 
       -- the bracket stands after it
-      pub all_found : (last : ℕ) → next < end → IsText (one s) (slice_range text next end) → last ≡ end + 1 → slice_range text end last ≡ codes ")"
-          → (whole : List ℕ) × AreText (all ts) whole × (slice_range text at last ≡ whole ++ codes ")")
+      pub all_found : (last : ℕ) → next < end → IsText (one s) (slice_range text next end) → last ≡ end + 1 → slice_range text end last ≡ close ∷ []
+          → (whole : List ℕ) × AreText (all ts) whole × (slice_range text at last ≡ whole ++ close ∷ [])
       all_found last past is place bracket =
           let piece : slice_range text at end ≡ slice_range text at next ++ slice_range text next end = rw (← slice_range-append text at next end h.from (omega (arith, past))) in (
             slice_range text at end,
@@ -242,5 +248,5 @@ module _ (k : Listing) where
             (ap all (own ∙ pushed) ∙ d.is, omega (arith, d.place, place))
 
         -- a fault at the bracket
-        pub no_bracket : (e : ShapeTextError) (r : Result (Vec Item Global × ℕ) ShapeTextError) → ((others : List ℕ) → drop end text ≡ 41 ∷ others → fault_of {A = ℕ} e ≡ Ok (end + 1)) → AllOnly text at most r
+        pub no_bracket : (e : ShapeTextError) (r : Result (Vec Item Global × ℕ) ShapeTextError) → ((others : List ℕ) → drop end text ≡ close ∷ others → fault_of {A = ℕ} e ≡ Ok (end + 1)) → AllOnly text at most r
         no_bracket e r bad xs whole rest there are deep = absurd (not_read e (end + 1) (bad rest (ended xs whole rest there are deep).bracket))

@@ -1,8 +1,9 @@
 -- The texts of shapes.
-use Rattle.std.specs.Prelude.{◌≡◌, ℕ, ◌<◌, ◌≤◌, ◌^◌, ⊤, ◌⊎◌, max, nat_lt, if◌then◌else◌, Bool, true, false, List, [], ◌∷◌, ◌++◌, Option, Some, None, Result, Ok, Err, codes}
+use Rattle.std.specs.Prelude.{◌≡◌, ℕ, ℤ, pos, negsuc, String, string_bytes, ◌+◌, ◌<◌, ◌≤◌, ◌^◌, ⊤, ◌⊎◌, max, nat_lt, if◌then◌else◌, Bool, true, false, List, [], ◌∷◌, ◌++◌, Option, Some, None, Result, Ok, Err, codes}
 use Rattle.std.specs.Fmt.{decimal}
+use Rattle.std.specs.declared.alloc.Global.{Global}
 use Rattle.someip_payload_values.specs.Check.{is_first, is_later, is_name}
-use Rattle.someip_payload_values.specs.Data.{Form, bool, unsigned, signed, u8, u16, u32, u64, i8, i16, i32, i64, string, padded, array, fixed, «struct», union, tagged, named, Forms, no_forms, form_then, Variants, no_variants, variant, Members, no_members, member_then}
+use Rattle.someip_payload_values.specs.Data.{Form, bool, unsigned, signed, u8, u16, u32, u64, i8, i16, i32, i64, string, padded, array, fixed, «struct», union, tagged, named, enumerated, Forms, no_forms, form_then, Variants, no_variants, variant, Members, no_members, member_then}
 use Rattle.someip_payload_values.specs.View.{OneMember, form}
 use Rattle.someip_payload_values.specs.declared.number.Order.TheVariants.{Little}
 use Rattle.someip_payload_values.specs.declared.number.Size.TheVariants.{S16, S32, S64}
@@ -67,6 +68,26 @@ abbrev pub IsNameIfAny : Option (List ℕ) → Type 0
 IsNameIfAny None = ⊤
 IsNameIfAny (Some n) = is_name n ≡ true
 
+-- a value as it is written, without leading zeros
+abbrev pub value_text : ℤ → List ℕ
+value_text (pos n) = decimal n
+value_text (negsuc n) = codes "-" ++ decimal (n + 1)
+
+-- a value that some integer has
+abbrev pub IsValue : ℤ → Type 0
+IsValue (pos n) = n < 2 ^ 64
+IsValue (negsuc n) = n < 2 ^ 63
+
+-- a value and its name
+abbrev pub IsTextOfLabel : ℤ × List ℕ → List ℕ → Type 0
+IsTextOfLabel l text = IsValue l.0 × (is_name l.1 ≡ true) × (text ≡ value_text l.0 ++ (codes "=" ++ l.1))
+
+-- values and their names, of which there is at least one, with commas between them
+pub data IsTextOfLabels : List (ℤ × List ℕ) → List ℕ → Type 0 where
+  last_label : (l : ℤ × List ℕ) (text : List ℕ) → IsTextOfLabel l text → IsTextOfLabels (l ∷ []) text
+  next_label : (l : ℤ × List ℕ) (ls : List (ℤ × List ℕ)) (text others : List ℕ) → IsTextOfLabel l text → IsTextOfLabels ls others
+      → IsTextOfLabels (l ∷ ls) (text ++ (codes "," ++ others))
+
 -- the word of an integer
 pub data IsInteger : Form → List ℕ → Type 0 where
   u8_text : IsInteger u8 (codes "u8")
@@ -89,6 +110,8 @@ mutual
   pub data IsTextOf : Form → List ℕ → Type 0 where
     bool_text : IsTextOf bool (codes "bool")
     integer_text : (f : Form) (text : List ℕ) → IsInteger f text → IsTextOf f text
+    enum_text : (f : Form) (word : List ℕ) (ls : List (ℤ × List ℕ)) (text : List ℕ) → IsInteger f word → IsTextOfLabels ls text
+        → IsTextOf (enumerated f ls) (word ++ (codes "{" ++ (text ++ codes "}")))
     utf8_text : (w : Option Width) → IsTextOf (string Utf8 (or_32 w)) (codes "utf8" ++ width_text w)
     utf16_text : (w : Option Width) → IsTextOf (string Utf16 (or_32 w)) (codes "utf16" ++ width_text w)
     utf8fix_text : (n : ℕ) → n < 2 ^ 32 → IsTextOf (padded Utf8 n) (codes "utf8fix" ++ room_text n)
@@ -132,6 +155,10 @@ mutual
         → IsTextOfTaggedMembers (member_then id optional f no_members) text
     next_tagged : (id : ℕ) (optional : Bool) (f : Form) (ms : Members) (text others : List ℕ) → IsTextOfTagged id optional f text → IsTextOfTaggedMembers ms others
         → IsTextOfTaggedMembers (member_then id optional f ms) (text ++ (codes "," ++ others))
+
+-- a value and its name as a shape has them
+abbrev pub one_label : ℤ × String Global → ℤ × List ℕ
+one_label l = (l.0, string_bytes l.1)
 
 -- a variant of a union: its type number and its form
 pub record OneVariant : Type 0 where

@@ -1,11 +1,11 @@
 -- The words that a shape's text begins with.
-use Rattle.std.specs.Prelude.{◌≡◌, ℕ, ◌<◌, ◌^◌, List, [], ◌++◌, Option, codes}
-use Rattle.someip_payload_values.specs.Data.{Form, bool, unsigned, signed, u8, u16, u32, u64, i8, i16, i32, i64, string, padded, array, fixed, «struct», tagged, Forms, Variants, Members}
+use Rattle.std.specs.Prelude.{◌≡◌, ℕ, ℤ, ◌<◌, ◌^◌, ◌⊎◌, List, [], ◌++◌, Option, codes}
+use Rattle.someip_payload_values.specs.Data.{Form, bool, unsigned, signed, u8, u16, u32, u64, i8, i16, i32, i64, string, padded, array, fixed, «struct», tagged, enumerated, Forms, Variants, Members}
 use Rattle.someip_payload_values.specs.declared.number.Order.TheVariants.{Little}
 use Rattle.someip_payload_values.specs.declared.number.Size.TheVariants.{S16, S32, S64}
 use Rattle.someip_payload_values.specs.declared.shape.Encoding.TheVariants.{Utf8, Utf16}
 use Rattle.someip_payload_values.specs.declared.shape.Width.{Width}
-use Rattle.someip_payload.specs.ShapeText.{IsTextOf, IsTextOfMembers, IsTextOfVariants, IsTextOfTaggedMembers, width_text, widths_text, or_32, union_of, room_text, repeated_text}
+use Rattle.someip_payload.specs.ShapeText.{IsTextOf, IsTextOfMembers, IsTextOfVariants, IsTextOfTaggedMembers, IsTextOfLabels, width_text, widths_text, or_32, union_of, room_text, repeated_text}
 use Rattle.someip_payload.specs.declared.words.Integer.{Integer}
 use Rattle.someip_payload.specs.declared.words.Integer.TheVariants as integer
 use Rattle.someip_payload.specs.declared.words.Word.{Word}
@@ -59,7 +59,9 @@ word_text word.Tagged = codes "tagged"
 -- what stands after the word in a text of the form
 abbrev pub Behind : Word → Form → List ℕ → Type 0
 Behind word.Bool f back = (f ≡ bool) × (back ≡ [])
-Behind (word.Integer i) f back = (f ≡ integer_form i) × (back ≡ [])
+Behind (word.Integer i) f back =
+    ((f ≡ integer_form i) × (back ≡ []))
+    ⊎ ((ls : List (ℤ × List ℕ)) × (text : List ℕ) × IsTextOfLabels ls text × (f ≡ enumerated (integer_form i) ls) × (back ≡ codes "{" ++ (text ++ codes "}")))
 Behind (word.Text e) f back = (w : Option Width) × (f ≡ string e (or_32 w)) × (back ≡ width_text w)
 Behind (word.FixedText e) f back = (n : ℕ) × (n < 2 ^ 32) × (f ≡ padded e n) × (back ≡ room_text n)
 Behind word.Array f back =

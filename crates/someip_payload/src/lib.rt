@@ -8,6 +8,7 @@
 //! - [`laws`]: what the definitions behind the contracts promise.
 #![tactic(auto)]
 
+mod labels;
 mod names;
 mod shape_text;
 mod shape_text_error;

@@ -97,7 +97,8 @@ pub(crate) fn name_to(alloc: Global, text: &[u8], at: usize, end: usize) -> Read
     Ok((name, behind))
 }
 
-fn name_from(alloc: Global, bytes: &[u8]) -> Result<String, AllocError>
+/// A name as a text of its own.
+pub(crate) fn name_from(alloc: Global, bytes: &[u8]) -> Result<String, AllocError>
     requires { is_name bytes.now ≡ true }
     ensures { IfOk result (λ name. string_bytes name ≡ bytes.now) }
 {

@@ -8,11 +8,12 @@ ghost use Rattle.someip_payload.specs.ShapeText.{IsTextOf, IsTextOfMember, IsTex
 ghost use Rattle.someip_payload_values.specs.View.{form, forms, all_variants, all_members, OneMember, one_member};
 ghost use Rattle.someip_payload.specs.Words.{word_text, Behind};
 
+use crate::labels::labels_at;
 use crate::names::{has_name, name_at, name_end, name_to, with_name};
 use crate::shape_text_error::ShapeTextError;
-use crate::text_parts::{ReadTo, byte_at, decimal_at, has_byte};
+use crate::text_parts::{ReadTo, byte_at, decimal_at, has_byte, one_after_other};
 use crate::words::{
-    Word, first_word, fixed_shape, integer_shape, or_32, union_shape, width_at, widths_at,
+    Integer, Word, first_word, fixed_shape, integer_shape, or_32, union_shape, width_at, widths_at,
 };
 use someip_payload_codec::{Encoding, Member, Shape};
 use std::alloc::Global;
@@ -26,31 +27,23 @@ const NUMBERS: u64 = 0x1_0000_0000;
 /// One more than the largest Data ID.
 const DATA_IDS: u64 = 0x1000;
 
-/// Reads items with commas between them, up to the bracket after the last: returns them and the
-/// place after it, or the first fault. `$item` reads the item at the place `$next`. It is a macro
-/// and no function that is passed what reads an item, so that the clauses of each caller speak of
-/// its own items, and the cycle of calls that reads shapes has no more functions.
-macro_rules! one_after_other {
-    ($alloc:ident, $text:ident, $at:ident, |$next:ident| $item:expr) => {{
-        let mut items = Vec::new($alloc);
-        let mut $next = $at;
-        loop {
-            let (item, end) = $item?;
-            items.push(item)?;
-            if has_byte(b',', $text, end) {
-                $next = end + 1;
-            } else {
-                let end = byte_at(b')', $text, end)?;
-                return Ok((items, end));
-            }
-        }
-    }};
-}
-
-/// The shape of this text, as `array<8,struct(u8,utf16/8)>` or `tagged(1:u8,2?:utf8)`: each text of
-/// a shape is read as it, unless memory runs out or more than 64 shapes lie inside each other. A
-/// fault's place is that of the first byte at which no text of a shape goes on, which is the length
-/// of a text that ends too early. A shape inside 64 others is a fault at its first byte.
+/// The shape of this text: each text of a shape is read as it, unless memory runs out or more than 64 shapes
+/// lie inside each other. A name or an enumeration adds none to these.
+///
+/// - `bool`, `u8` to `u64`, `i8` to `i64`, and `u16le` to `u64le` and `i16le` to `i64le` in little-endian;
+/// - `utf8/16`, a text after a length field of 16 bits, and `utf8`, after one of 32; `utf8fix<16>`, in 16 bytes;
+///   likewise `utf16`;
+/// - `array/8<4,u16>`, at most 4 elements; `fixed<2,u8>`, exactly 2, and `fixed/8<2,u8>` after a length field;
+/// - `struct(u8,name:utf8)`, and `struct/16(..)` after a length field; a member may have a name;
+/// - `union(1:u8,2:bool)`, and `union/8/16(..)` with the widths of its length field and of its type field;
+/// - `tagged/16(1:u8,2?:utf8,name:3:bool)`, members by their Data IDs, of which the second may be absent;
+/// - `u8{0=PARK,3=DRIVE}`, an integer with names for some of its values.
+///
+/// A name is a letter or `_`, then letters, digits and `_` of ASCII, at most 64 bytes in all.
+///
+/// A fault's place is that of the first byte at which no text of a shape goes on, which is the length of a text
+/// that ends too early. A shape inside 64 others is a fault at its first byte. Whether payloads can have the
+/// shape is for [`check_shape`](crate::check_shape) to say, as that values rise and that names differ.
 pub fn read_shape(alloc: Global, text: &str) -> Result<Shape, ShapeTextError>
     ensures found { IfOk result (λ shape. IsTextOf (form shape) text.now) }
     // Each text of a shape is read.
@@ -85,7 +78,7 @@ fn shape_at(alloc: Global, text: &[u8], at: usize, left: u32) -> ReadTo<Shape>
     let (word, end) = first_word(text, at)?;
     match word {
         Word::Bool => Ok((Shape::Bool, end)),
-        Word::Integer(integer) => Ok((integer_shape(integer), end)),
+        Word::Integer(integer) => integer_at(alloc, integer, text, end),
         Word::Text(encoding) => string_at(encoding, text, end),
         Word::FixedText(encoding) => padded_at(encoding, text, end),
         Word::Array => array_at(alloc, text, end, left - 1),
@@ -94,6 +87,25 @@ fn shape_at(alloc: Global, text: &[u8], at: usize, left: u32) -> ReadTo<Shape>
         Word::Union => union_at(alloc, text, end, left - 1),
         Word::Tagged => tagged_at(alloc, text, end, left - 1),
     }
+}
+
+/// The rest of a shape after the word of an integer: perhaps names for some of its values.
+fn integer_at(alloc: Global, integer: Integer, text: &[u8], at: usize) -> ReadTo<Shape>
+    requires { at ≤ length text.now }
+    ensures found { IfOk result (λ x. IsTextOf (form x.0) (word_text (Word.Integer integer) ++ slice_range text.now at x.1)) }
+    ensures only { (f : Form) (back rest : List ℕ) → drop at text.now ≡ back ++ rest
+        → Behind (Word.Integer integer) f back → EndsShape rest → IsReadTo form f (at + length back) result }
+    ensures within { IfOk result (λ x. depth (form x.0) ≤ 1) }
+    ensures end { IfOk result (λ x. (at ≤ x.1) × (x.1 ≤ length text.now)) }
+    ensures fault { IfErr result (IsFaultWithin at (length text.now)) }
+{
+    let shape = integer_shape(integer);
+    if !has_byte(b'{', text, at) {
+        return Ok((shape, at));
+    }
+    let (labels, end) = labels_at(alloc, text, at + 1)?;
+    let integers = Box::new(alloc, shape)?;
+    Ok((Shape::Enum(integers, labels), end))
 }
 
 /// The rest of a shape after the word of an encoding.
@@ -218,7 +230,13 @@ fn members_at(alloc: Global, text: &[u8], at: usize, left: u32) -> ReadTo<Vec<Sh
     ensures end { IfOk result (λ x. (at ≤ x.1) × (x.1 ≤ length text.now)) }
     ensures fault { IfErr result (IsFaultWithin at (length text.now)) }
 {
-    one_after_other!(alloc, text, at, |next| member_at(alloc, text, next, left))
+    one_after_other!(
+        alloc,
+        text,
+        at,
+        b')',
+        |next| member_at(alloc, text, next, left)
+    )
 }
 
 /// A member of a structure: perhaps a name and a colon, and a shape. A name that no colon follows is read as
@@ -305,7 +323,13 @@ fn variants_at(alloc: Global, text: &[u8], at: usize, left: u32) -> ReadTo<Vec<(
     ensures end { IfOk result (λ x. (at ≤ x.1) × (x.1 ≤ length text.now)) }
     ensures fault { IfErr result (IsFaultWithin at (length text.now)) }
 {
-    one_after_other!(alloc, text, at, |next| variant_at(alloc, text, next, left))
+    one_after_other!(
+        alloc,
+        text,
+        at,
+        b')',
+        |next| variant_at(alloc, text, next, left)
+    )
 }
 
 /// A variant of a union: its type number and its shape.
@@ -362,6 +386,7 @@ fn tagged_members_at(alloc: Global, text: &[u8], at: usize, left: u32) -> ReadTo
         alloc,
         text,
         at,
+        b')',
         |next| tagged_member_at(alloc, text, next, left)
     )
 }

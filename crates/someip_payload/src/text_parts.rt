@@ -11,6 +11,29 @@ use crate::shape_text_error::ShapeTextError;
 /// What was read and the place after it, or the fault.
 pub(crate) type ReadTo<T> = Result<(T, usize), ShapeTextError>;
 
+/// Reads items with commas between them, up to the bracket after the last: returns them and the
+/// place after it, or the first fault. `$item` reads the item at the place `$next`. It is a macro
+/// and no function that is passed what reads an item, so that the clauses of each caller speak of
+/// its own items, and the cycle of calls that reads shapes has no more functions.
+macro_rules! one_after_other {
+    ($alloc:ident, $text:ident, $at:ident, $close:expr, |$next:ident| $item:expr) => {{
+        let mut items = Vec::new($alloc);
+        let mut $next = $at;
+        loop {
+            let (item, end) = $item?;
+            items.push(item)?;
+            if has_byte(b',', $text, end) {
+                $next = end + 1;
+            } else {
+                let end = byte_at($close, $text, end)?;
+                return Ok((items, end));
+            }
+        }
+    }};
+}
+
+pub(crate) use one_after_other;
+
 /// The word at a place, and the place after it: the longest front that the text has in common with any of
 /// the words has to be one of them. The fault is at the first byte at which none of the words goes on.
 pub(crate) fn word_at<T: Copy>(words: &[(&str, T)], text: &[u8], at: usize) -> ReadTo<T>
@@ -79,8 +102,7 @@ pub(crate) fn byte_at(byte: u8, text: &[u8], at: usize) -> Result<usize, ShapeTe
     Ok(at + 1)
 }
 
-/// A decimal number below the limit, without leading zeros. The fault is at the first digit that is
-/// one too many.
+/// A decimal number below the limit, as `long_decimal_at`.
 pub(crate) fn decimal_at(text: &[u8], at: usize, limit: u64) -> ReadTo<u32>
     requires place { at ≤ length text.now }
     requires limit { (10 ≤ limit) × (limit ≤ 2 ^ 32) }
@@ -91,13 +113,29 @@ pub(crate) fn decimal_at(text: &[u8], at: usize, limit: u64) -> ReadTo<u32>
     ensures end { IfOk result (λ x. (at < x.1) × (x.1 ≤ length text.now)) }
     ensures fault { IfErr result (IsFaultWithin at (length text.now)) }
 {
+    let (number, end) = long_decimal_at(text, at, limit - 1)?;
+    Ok((number as u32, end))
+}
+
+/// A decimal number that is at most so large, without leading zeros. The fault is at the first digit that is
+/// one too many.
+pub(crate) fn long_decimal_at(text: &[u8], at: usize, most: u64) -> ReadTo<u64>
+    requires place { at ≤ length text.now }
+    requires most { 9 ≤ most }
+    ensures found { IfOk result (λ x. slice_range text.now at x.1 ≡ decimal x.0) }
+    ensures fits { IfOk result (λ x. x.0 ≤ most) }
+    ensures only { (n b : ℕ) (rest : List ℕ) → drop at text.now ≡ decimal n ++ b ∷ rest → n ≤ most
+        → (IsDigit b → ⊥) → result ≡ Ok (n, at + length (decimal n)) }
+    ensures end { IfOk result (λ x. (at < x.1) × (x.1 ≤ length text.now)) }
+    ensures fault { IfErr result (IsFaultWithin at (length text.now)) }
+{
     let mut number = 0;
     let mut end = at;
     while let Some(digit) = digit_at(text, end) {
         if number == 0 && at < end {
             return Err(ShapeTextError::BadShape(end));
         }
-        number = with_digit(number, digit, limit).ok_or(ShapeTextError::BadShape(end))?;
+        number = with_digit(number, digit, most).ok_or(ShapeTextError::BadShape(end))?;
         end += 1;
     }
     if end == at {
@@ -106,27 +144,27 @@ pub(crate) fn decimal_at(text: &[u8], at: usize, limit: u64) -> ReadTo<u32>
     Ok((number, end))
 }
 
-fn digit_at(text: &[u8], at: usize) -> Option<u32>
+fn digit_at(text: &[u8], at: usize) -> Option<u64>
     ensures bound { IfSome result (λ digit. (digit < 10) × (at < length text.now)) }
     ensures value { IfSome result (λ digit. slice_index text.now at ≡ 48 + digit) }
     ensures none { IfNone result (at < length text.now → IsDigit (slice_index text.now at) → ⊥) }
 {
     let byte = *text.get(at)?;
     if byte.is_ascii_digit() {
-        Some(u32::from(byte - b'0'))
+        Some(u64::from(byte - b'0'))
     } else {
         None
     }
 }
 
-fn with_digit(number: u32, digit: u32, limit: u64) -> Option<u32>
-    requires { limit ≤ 2 ^ 32 }
-    ensures value { IfSome result (λ n. (n ≡ number * 10 + digit) × (n < limit)) }
-    ensures none { IfNone result (limit ≤ number * 10 + digit) }
+fn with_digit(number: u64, digit: u64, most: u64) -> Option<u64>
+    requires { (digit < 10) × (9 ≤ most) }
+    ensures value { IfSome result (λ n. (n ≡ number * 10 + digit) × (n ≤ most)) }
+    ensures fits { IfSome result (λ n. n < 2 ^ 64) }
+    ensures none { IfNone result (most < number * 10 + digit) }
 {
-    let next = u64::from(number) * 10 + u64::from(digit);
-    if next < limit {
-        Some(next as u32)
+    if number <= (most - digit) / 10 {
+        Some(number * 10 + digit)
     } else {
         None
     }

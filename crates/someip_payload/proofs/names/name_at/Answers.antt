@@ -1,10 +1,7 @@
-use Rattle.std.proofs.Common.{◌≡◌, ◌<◌, ◌≤◌, ◌+◌, ◌++◌, ◌∷◌, List, [], ℕ, length, drop, Option, Some, None, string_bytes, Global, slice_range, subst, refl, sym, ap, ◌∙◌, append_assoc, arith}
-use Rattle.std.specs.Option.{option_map}
-use Rattle.someip_payload.specs.ShapeText.{name_text, IsReadTo}
+use Rattle.std.proofs.Common.{◌<◌, ◌≤◌, ◌+◌, string_bytes, Global, slice_range, arith}
 use Rattle.someip_payload.proofs.Converse.{passed_on, memory_of}
 use Rattle.someip_payload.proofs.NameBytes.{colon_behind}
 use Rattle.someip_payload.proofs.Pieces.{slice_range-append}
-use Rattle.someip_payload.proofs.Places.{behind_piece}
 use Rattle.someip_payload.proofs.names.name_at.Goals as goal
 
 pub returns-clause-found : goal.returns-clause-found

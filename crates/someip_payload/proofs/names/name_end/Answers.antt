@@ -1,4 +1,4 @@
-use Rattle.std.proofs.Common.{◌≡◌, ◌+◌, ◌-◌, ◌<◌, ◌≤◌, true, false, length, drop, sym, ◌∙◌, arith}
+use Rattle.std.proofs.Common.{◌≡◌, ◌-◌, ◌<◌, ◌≤◌, true, drop, sym, arith}
 use Rattle.someip_payload.specs.ShapeText.{begins_name}
 use Rattle.someip_payload.proofs.NameBytes.{begun, goes_on, name_is}
 use Rattle.someip_payload.proofs.names.name_end.Goals as goal

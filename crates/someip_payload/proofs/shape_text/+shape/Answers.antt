@@ -6,11 +6,11 @@ use Rattle.someip_payload_values.specs.declared.shape.Shape.{Bool}
 use Rattle.someip_payload_values.specs.Data.{bool, named}
 use Rattle.someip_payload_values.specs.Check.{depth}
 use Rattle.someip_payload_values.specs.View.{form, all_variants}
-use Rattle.someip_payload.specs.ShapeText.{tagged_member_text, name_text, with_name, repeated_text, width_text, widths_text, bool_text, integer_text}
-use Rattle.someip_payload.specs.Words.{word_text, integer_word, integer_form}
-use Rattle.someip_payload.proofs.Converse.{integer_is, by_word, plain, word_there, not_read, passed_on, memory_of}
+use Rattle.someip_payload.specs.ShapeText.{tagged_member_text, name_text, with_name, repeated_text, width_text, widths_text, bool_text}
+use Rattle.someip_payload.specs.Words.{word_text}
+use Rattle.someip_payload.proofs.Converse.{by_word, plain, word_there, not_read, passed_on, memory_of}
 use Rattle.someip_payload.proofs.Places.{behind_piece}
-use Rattle.someip_payload.proofs.ConverseParts.{inner, array_is, fixed_is, struct_is, union_is, tagged_is, stops_repeated, stops_bracket, stops_end, no_digit_comma, after_width, after_widths, after_open, after_count, after_comma, length-repeated, after_bracket, within_more, integer_depth, union_depth}
+use Rattle.someip_payload.proofs.ConverseParts.{inner, array_is, fixed_is, struct_is, union_is, tagged_is, stops_repeated, stops_bracket, stops_end, no_digit_comma, after_width, after_widths, after_open, after_count, after_comma, length-repeated, after_bracket, within_more, union_depth}
 use Rattle.someip_payload.proofs.MemberTexts.{tagged_parts, depth-with_name, with_colon, without_colon, byte_and_rest}
 use Rattle.someip_payload_values.proofs.Shapes.{form-Bool, form-Array, form-Struct, form-Tagged, some_depth}
 use Rattle.someip_payload.proofs.ShapePieces.{plain_shape, behind_word, array_shape, fixed_shape, struct_shape, union_shape, tagged_shape, repeated_piece, named_shape, plain_member, tagged_shape_found, tagged_depth, one_member-made}
@@ -25,9 +25,7 @@ pub shape_at-returns-in-Bool-clause-found : goal.shape_at-returns-in-Bool-clause
 shape_at-returns-in-Bool-clause-found t c = plain_shape Bool bool _ _ form-Bool bool_text (c.in_ok-word.ensures.found ∙ ap word_text c.in-Bool.is)
 
 pub shape_at-returns-in-Integer-clause-found : goal.shape_at-returns-in-Integer-clause-found
-shape_at-returns-in-Integer-clause-found t c =
-    let i = c.in-Integer.integer in
-    plain_shape c.integer_shape.result (integer_form i) (integer_word i) _ c.integer_shape.ensures (integer_text (integer_form i) (integer_word i) (integer_is i)) (c.in_ok-word.ensures.found ∙ ap word_text c.in-Integer.is)
+shape_at-returns-in-Integer-clause-found t c = behind_word c.integer_at.result _ _ _ _ _ c.in-Integer.is c.in_ok-word.ensures.end.0 c.in_ok-word.ensures.found c.integer_at.ensures.end c.integer_at.ensures.found
 
 pub shape_at-returns-in-Text-clause-found : goal.shape_at-returns-in-Text-clause-found
 shape_at-returns-in-Text-clause-found t c = behind_word c.string_at.result _ _ _ _ _ c.in-Text.is c.in_ok-word.ensures.end.0 c.in_ok-word.ensures.found c.string_at.ensures.end c.string_at.ensures.found
@@ -137,7 +135,7 @@ tagged_members_at-returns-else-has_byte-clause-found t c =
 -- ---- how deep it lies
 
 pub shape_at-returns-in-Integer-clause-within : goal.shape_at-returns-in-Integer-clause-within
-shape_at-returns-in-Integer-clause-within t c = rw c.integer_shape.ensures (omega (arith, integer_depth c.in-Integer.integer, c.if-left-eq0.false))
+shape_at-returns-in-Integer-clause-within t c = within_more c.integer_at.result 1 c.args.left (omega (arith, c.if-left-eq0.false)) c.integer_at.ensures.within
 
 pub shape_at-returns-in-Text-clause-within : goal.shape_at-returns-in-Text-clause-within
 shape_at-returns-in-Text-clause-within t c = within_more c.string_at.result 1 c.args.left (omega (arith, c.if-left-eq0.false)) c.string_at.ensures.within
@@ -204,7 +202,7 @@ pub shape_at-returns-in-Bool-clause-only : goal.shape_at-returns-in-Bool-clause-
 shape_at-returns-in-Bool-clause-only t c = plain _ _ _ _ _ _ Bool bool c.in-Bool.is form-Bool (λ f back behind. behind) c.in_ok-word.ensures.only
 
 pub shape_at-returns-in-Integer-clause-only : goal.shape_at-returns-in-Integer-clause-only
-shape_at-returns-in-Integer-clause-only t c = plain _ _ _ _ _ _ c.integer_shape.result (integer_form c.in-Integer.integer) c.in-Integer.is c.integer_shape.ensures (λ f back behind. behind) c.in_ok-word.ensures.only
+shape_at-returns-in-Integer-clause-only t c = by_word _ _ _ _ _ _ _ c.in-Integer.is c.in_ok-word.ensures.only (λ f back rest there behind deep stops. c.integer_at.ensures.only f back rest there behind stops)
 
 pub shape_at-returns-in-Text-clause-only : goal.shape_at-returns-in-Text-clause-only
 shape_at-returns-in-Text-clause-only t c = by_word _ _ _ _ _ _ _ c.in-Text.is c.in_ok-word.ensures.only (λ f back rest there behind deep stops. c.string_at.ensures.only f back rest there behind stops)
