@@ -1,5 +1,6 @@
 -- The text of a shape has no space, so a line `payload SHAPE HEX` is parted at its first one after the word.
 use Rattle.std.proofs.Common.{◌≡◌, ◌==◌, ◌||◌, ◌&&◌, ltb, ◌<◌, ◌≤◌, ◌^◌, ℕ, suc, ◌+◌, Bool, true, false, List, [], ◌∷◌, ◌++◌, length, take, drop, codes, Option, None, Some, Err, refl, sym, ap, subst, ◌∙◌, arith, length-append}
+use Rattle.std.specs.Prelude.{ℤ, pos, negsuc}
 use Rattle.std.specs.List.{list_all, list_any, position_or_len, before_first, after_first}
 use Rattle.std.specs.Fmt.{decimal}
 use Rattle.std.specs.Char.{digit_value}
@@ -18,7 +19,7 @@ use Rattle.someipctl_show.specs.Payload.{argument_bytes}
 use Rattle.someipctl_show.specs.VectorLines.{AreArguments, fault_of_shape}
 use Rattle.someip_payload_values.specs.declared.shape.Width.{Width}
 use Rattle.someip_payload_values.specs.declared.shape.Width.TheVariants.{W8, W16, W32}
-use Rattle.someip_payload.specs.ShapeText.{IsReadAs, width_text, repeated_text, IsInteger, u8_text, u16_text, u32_text, u64_text, i8_text, i16_text, i32_text, i64_text, u16le_text, u32le_text, u64le_text, i16le_text, i32le_text, i64le_text, widths_text, room_text, IsTextOf, bool_text, integer_text, utf8_text, utf16_text, utf8fix_text, utf16fix_text, array_text, fixed_text, struct_text, union_text, tagged_text, mark_text, tagged_member_text, name_text, IsNameIfAny, IsTextOfTagged, tagged_one, IsTextOfTaggedMembers, last_tagged, next_tagged, IsTextOfMember, member_text, IsTextOfMembers, last_member, next_member, IsTextOfVariants, last_variant, next_variant}
+use Rattle.someip_payload.specs.ShapeText.{IsReadAs, width_text, repeated_text, IsInteger, u8_text, u16_text, u32_text, u64_text, i8_text, i16_text, i32_text, i64_text, u16le_text, u32le_text, u64le_text, i16le_text, i32le_text, i64le_text, widths_text, room_text, IsTextOfLabel, IsTextOfLabels, last_label, next_label, value_text, IsValue, IsTextOf, bool_text, integer_text, enum_text, utf8_text, utf16_text, utf8fix_text, utf16fix_text, array_text, fixed_text, struct_text, union_text, tagged_text, mark_text, tagged_member_text, name_text, IsNameIfAny, IsTextOfTagged, tagged_one, IsTextOfTaggedMembers, last_tagged, next_tagged, IsTextOfMember, member_text, IsTextOfMembers, last_member, next_member, IsTextOfVariants, last_variant, next_variant}
 
 abbrev pub is_blank : ℕ → Bool
 is_blank b = b == 32
@@ -41,8 +42,11 @@ digits_unparted : (ds : List ℕ) → AllDigits 10 ds → IsUnparted ds
 digits_unparted [] digits = refl
 digits_unparted (c ∷ cs) digits = digit_unparted c cs (is_blank c) refl digits (digits_unparted cs digits.1)
 
+long_unparted : (n : ℕ) → n < 2 ^ 64 → IsUnparted (decimal n)
+long_unparted n fits = digits_unparted (decimal n) (decimal_is_IsNumeral n (omega (arith, fits))).0.1
+
 decimal_unparted : (n : ℕ) → n < 2 ^ 32 → IsUnparted (decimal n)
-decimal_unparted n fits = digits_unparted (decimal n) (decimal_is_IsNumeral n (omega (arith, fits))).0.1
+decimal_unparted n fits = long_unparted n (omega (arith, fits))
 
 width_unparted : (w : Option Width) → IsUnparted (width_text w)
 width_unparted None = refl
@@ -111,6 +115,17 @@ integer_unparted f text i16le_text = refl
 integer_unparted f text i32le_text = refl
 integer_unparted f text i64le_text = refl
 
+value_unparted : (z : ℤ) → IsValue z → IsUnparted (value_text z)
+value_unparted (pos n) is = long_unparted n (omega (arith, is))
+value_unparted (negsuc n) is = both (codes "-") (decimal (n + 1)) refl (long_unparted (n + 1) (omega (arith, is)))
+
+label_unparted : (l : ℤ × List ℕ) (text : List ℕ) → IsTextOfLabel l text → IsUnparted text
+label_unparted l text (is, good, same) = rw same (between (value_text l.0) (codes "=") l.1 (value_unparted l.0 is) refl (whole_unparted l.1 good))
+
+labels_unparted : (ls : List (ℤ × List ℕ)) (text : List ℕ) → IsTextOfLabels ls text → IsUnparted text
+labels_unparted ls text (last_label l inner h) = label_unparted l inner h
+labels_unparted ls text (next_label l ms inner others h more) = between inner (codes ",") others (label_unparted l inner h) refl (labels_unparted ms others more)
+
 widths_unparted : (ws : Option (Width × Width)) → IsUnparted (widths_text ws)
 widths_unparted None = refl
 widths_unparted (Some ws) = both (width_text (Some ws.0)) (width_text (Some ws.1)) (width_unparted (Some ws.0)) (width_unparted (Some ws.1))
@@ -122,6 +137,8 @@ mutual
   pub shape_unparted : (f : Form) (text : List ℕ) → IsTextOf f text → IsUnparted text
   shape_unparted f text bool_text = refl
   shape_unparted f text (integer_text g inner h) = integer_unparted g inner h
+  shape_unparted f text (enum_text g word ls inner h labels) =
+      both word (codes "{" ++ (inner ++ codes "}")) (integer_unparted g word h) (between (codes "{") inner (codes "}") refl (labels_unparted ls inner labels) refl)
   shape_unparted f text (utf8_text w) = both (codes "utf8") (width_text w) refl (width_unparted w)
   shape_unparted f text (utf16_text w) = both (codes "utf16") (width_text w) refl (width_unparted w)
   shape_unparted f text (utf8fix_text n fits) = both (codes "utf8fix") (room_text n) refl (room_unparted n fits)
