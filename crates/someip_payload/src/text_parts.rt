@@ -11,8 +11,8 @@ use crate::shape_text_error::ShapeTextError;
 /// What was read and the place after it, or the fault.
 pub(crate) type ReadTo<T> = Result<(T, usize), ShapeTextError>;
 
-/// Reads items with commas between them, up to the bracket after the last: returns them and the
-/// place after it, or the first fault. `$item` reads the item at the place `$next`. It is a macro
+/// Reads items with commas between them, up to the bracket `$close` after the last: returns them and
+/// the place after it, or the first fault. `$item` reads the item at the place `$next`. It is a macro
 /// and no function that is passed what reads an item, so that the clauses of each caller speak of
 /// its own items, and the cycle of calls that reads shapes has no more functions.
 macro_rules! one_after_other {
