@@ -1,5 +1,5 @@
 -- Which errors the check of a shape and writing may have.
-use Rattle.std.proofs.Common.{◌≡◌, ◌⊎◌, inl, inr, ℕ, ◌-◌, ◌^◌, ◌&&◌, not, replicate, Bool, true, false, cond, ltb, eqb, List, [], ◌++◌, length, Result, Ok, Err, Some, None, refl, subst}
+use Rattle.std.proofs.Common.{◌≡◌, ◌⊎◌, inl, inr, ℕ, ◌-◌, ◌&&◌, not, replicate, Bool, true, false, cond, ltb, eqb, List, [], ◌++◌, length, Result, Ok, Err, Some, None, refl, subst}
 use Rattle.std.specs.Prelude.{ℤ, IfErr}
 use Rattle.std.specs.Int.{cast_unsigned}
 use Rattle.std.specs.Str.{is_utf8}
@@ -9,7 +9,6 @@ use Rattle.someip_payload_values.specs.declared.error.PayloadError.TheVariants.{
 use Rattle.someip_payload_values.specs.declared.number.Order.{Order}
 use Rattle.someip_payload_values.specs.declared.number.Size.{Size}
 use Rattle.someip_payload_values.specs.declared.shape.Width.{Width}
-use Rattle.someip_payload_values.specs.declared.shape.Width.TheVariants.{W32}
 use Rattle.someip_payload_values.specs.Data.{Form, bool, unsigned, signed, string, padded, array, fixed, «struct», union, tagged, named, enumerated, Forms, form_then, Variants, no_variants, variant, Members, member_then, Data, truth, uint, int, phrase, list, tuple, nothing, chosen, slotted, Items, no_items, item, Slots, present, absent, count}
 use Rattle.someip_payload_values.specs.Steps.{◌>>=◌, Fails}
 use Rattle.someip_payload_values.specs.Check.{depth, is_form, checked}

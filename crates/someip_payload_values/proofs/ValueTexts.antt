@@ -4,12 +4,11 @@ use native.Mathlib.Numerals.{unary_clauses}
 use Rattle.std.proofs.lemmas.Bool.{ne_eqb}
 use Rattle.std.proofs.lemmas.List.{append-nil, drop_more, drop_all}
 use Rattle.someip_payload_values.specs.declared.shape.Shape.{Shape}
-use Rattle.someip_payload_values.specs.declared.shape.Member.{Member, out-Member}
+use Rattle.someip_payload_values.specs.declared.shape.Member.{Member}
 use Rattle.someip_payload_values.specs.declared.value.Value.{Value}
 use Rattle.someip_payload_values.specs.Data.{Form, Members}
-use Rattle.someip_payload_values.specs.View.{form, forms, all_members, data_of, data_of_all, slot_of, slots_of}
+use Rattle.someip_payload_values.specs.View.{forms, all_members, data_of, data_of_all, slot_of, slots_of}
 use Rattle.someip_payload_values.specs.ValueText.{other_forms, other_members, behind_comma, listed, listed_from, comma_before, first_form, first_member, name_text, data_text, slot_text, element_texts, member_texts, slot_texts}
-use Rattle.someip_payload_values.proofs.Shapes.{all_members-drop}
 
 -- the next text is printed, with a comma where it is not the first
 next_text : (i : ℕ) (written text : List ℕ) (texts : List (List ℕ)) (total : List ℕ) → written ++ listed_from i (text ∷ texts) ≡ total

@@ -1,5 +1,5 @@
 -- The one text of each value of a form, or why there is none: the first reason from left to right.
-use Rattle.std.specs.Prelude.{◌≡◌, ℕ, ◌+◌, ◌-◌, ◌^◌, ℤ, pos, negsuc, Bool, true, false, List, [], ◌∷◌, ◌++◌, length, flat_map, Option, Some, None, Result, Ok, Err, nat_lt, ◌==◌, ◌&&◌, not, replicate, if◌then◌else◌}
+use Rattle.std.specs.Prelude.{◌≡◌, ℕ, ◌+◌, ◌-◌, ℤ, Bool, true, false, List, [], ◌∷◌, ◌++◌, length, flat_map, Option, Some, None, Result, Ok, Err, nat_lt, ◌==◌, ◌&&◌, not, replicate, if◌then◌else◌}
 use Rattle.std.specs.List.{list_any}
 use Rattle.std.specs.Int.{cast_unsigned}
 use Rattle.std.specs.Str.{chars, is_utf8}
@@ -8,7 +8,7 @@ use Rattle.someip_payload_values.specs.declared.error.PayloadError.TheVariants a
 use Rattle.someip_payload_values.specs.declared.error.PayloadError.TheVariants.{NotOfShape, TooMany, TooLong, UnknownVariant}
 use Rattle.someip_payload_values.specs.declared.number.Order.{Order}
 use Rattle.someip_payload_values.specs.declared.number.Size.{Size}
-use Rattle.someip_payload_values.specs.declared.number.Size.TheVariants.{S8, S16, S32, S64}
+use Rattle.someip_payload_values.specs.declared.number.Size.TheVariants.{S8}
 use Rattle.someip_payload_values.specs.declared.shape.Width.{Width}
 use Rattle.someip_payload_values.specs.declared.shape.Encoding.{Encoding}
 use Rattle.someip_payload_values.specs.declared.shape.Encoding.TheVariants.{Utf8, Utf16}

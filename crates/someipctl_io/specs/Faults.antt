@@ -1,5 +1,5 @@
 -- Why a command did not do its work.
-use Rattle.std.specs.Prelude.{◌≡◌, ⊤}
+use Rattle.std.specs.Prelude.{⊤}
 use Rattle.someipctl_io.specs.declared.fault.Fault.{Fault}
 use Rattle.someipctl_io.specs.declared.fault.Fault.TheVariants.{Refused, CannotRead, CannotWrite, OutOfMemory}
 use Rattle.someipctl_io.specs.declared.fault.PrintFault.{PrintFault}

@@ -7,7 +7,7 @@ use Rattle.someip_payload_values.specs.declared.error.PayloadError.TheVariants.{
 use Rattle.someip_payload_values.specs.declared.number.Order.{Order}
 use Rattle.someip_payload_values.specs.declared.number.Order.TheVariants.{Big}
 use Rattle.someip_payload_values.specs.declared.number.Size.{Size}
-use Rattle.someip_payload_values.specs.declared.number.Size.TheVariants.{S8, S16, S32}
+use Rattle.someip_payload_values.specs.declared.number.Size.TheVariants.{S8, S16}
 use Rattle.someip_payload_values.specs.declared.shape.Width.{Width}
 use Rattle.someip_payload_values.specs.declared.shape.Width.TheVariants.{W32}
 use Rattle.someip_payload_values.specs.declared.tag.WireType.{WireType}

@@ -14,7 +14,7 @@ use Rattle.someip_payload_codec.specs.View.{View}
 use Rattle.someip_payload_values.specs.Numbers.{width_of, number}
 use Rattle.someip_payload_values.specs.Tags.{TaggedItem, tag_number, item_bytes, items_bytes, with_id, Skips, has_wire_type, width_in}
 use Rattle.someip_payload_codec.specs.Grammar.{is_member, SkipsOthers, ReadsBy, ReadsItems}
-use Rattle.someip_payload_codec.specs.Reading.{skip, ordered_at, number_at, tag_at, skip_at, Filler, item_by, tagged_at, all_absent, member_at, data_by, slots_at, item_at}
+use Rattle.someip_payload_codec.specs.Reading.{skip, ordered_at, tag_at, skip_at, Filler, item_by, tagged_at, all_absent, member_at, data_by, slots_at, item_at}
 use Rattle.someip_payload_codec.proofs.parts.Forms.{AreMembers}
 use Rattle.someip_payload_codec.proofs.parts.Parts.{same_view, Took, took_split, front_again, number_again, body_again}
 use Rattle.someip_payload_codec.proofs.tagged.TagLemmas.{tag_says, tag_below}

@@ -1,5 +1,5 @@
 -- What is spelled so is read.
-use Rattle.std.proofs.Common.{◌≡◌, ℕ, zero, suc, ◌^◌, ◌<◌, ◌≤◌, Bool, true, false, cond, ltb, eqb, List, [], ◌++◌, length, drop, Result, Ok, Err, Some, None, refl, sym, ap, append-nil, subst, ◌∙◌, arith}
+use Rattle.std.proofs.Common.{◌≡◌, ℕ, zero, suc, ◌<◌, ◌≤◌, Bool, true, false, cond, ltb, eqb, List, [], ◌++◌, length, drop, Result, Ok, Err, Some, None, refl, sym, ap, append-nil, subst, ◌∙◌, arith}
 use Rattle.std.specs.Int.{byte_len, cast_unsigned}
 use Rattle.std.specs.Int.RustNames.{FitsSigned}
 use Rattle.std.specs.Prelude.{ℤ, pos, negsuc}

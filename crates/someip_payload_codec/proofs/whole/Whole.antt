@@ -13,7 +13,6 @@ use Rattle.someip_payload_values.specs.declared.number.Size.{Size}
 use Rattle.someip_payload_values.specs.declared.number.Size.TheVariants.{S8, S16, S32, S64}
 use Rattle.someip_payload_values.specs.declared.number.Order.{Order}
 use Rattle.someip_payload_values.specs.declared.shape.Width.{Width}
-use Rattle.someip_payload_values.specs.declared.shape.Width.TheVariants.{W32}
 use Rattle.someip_payload_values.specs.declared.value.Value.{Value}
 use Rattle.someip_payload_values.specs.Data.{Form, bool, unsigned, signed, string, padded, array, fixed, «struct», union, tagged, named, enumerated, Forms, no_forms, form_then, Variants, no_variants, variant, Members, no_members, member_then, Data, truth, uint, int, phrase, list, tuple, nothing, chosen, slotted, Items, no_items, item, Slots, no_slots, present, absent, count}
 use Rattle.someip_payload_codec.specs.View.{View}

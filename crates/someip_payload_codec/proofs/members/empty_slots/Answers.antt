@@ -1,4 +1,4 @@
-use Rattle.std.proofs.Common.{arith, ◌≡◌, ◌∙◌, ap, None, ◌++◌, ◌∷◌, []}
+use Rattle.std.proofs.Common.{arith, ◌∙◌, ap, None, ◌++◌, ◌∷◌, []}
 use Rattle.someip_payload_codec.proofs.tagged.TaggedLoops.{one_none_more, all_none}
 use Rattle.someip_payload_codec.proofs.members.empty_slots.Goals as goal
 

@@ -1,4 +1,4 @@
-use Rattle.std.proofs.Common.{rules, ◌<◌, arith, ◌≡◌, ◌∙◌, ap}
+use Rattle.std.proofs.Common.{rules, arith, ◌≡◌, ◌∙◌, ap}
 use Rattle.std.proofs.lemmas.Bool.Decides.{nat_tests}
 use Rattle.someip_payload_values.specs.declared.shape.Width.TheVariants.{W32}
 use Rattle.std.proofs.Common.{None, Some, string_bytes}

@@ -1,4 +1,4 @@
-use Rattle.std.proofs.Common.{sym, ◌∙◌, ◌∷◌}
+use Rattle.std.proofs.Common.{sym, ◌∙◌}
 use Rattle.someip_payload_values.proofs.OtherNumbers.{was_there, was_none}
 use Rattle.someip_payload_values.proofs.OtherNames.{one_more, names_on, names_bad, names_again, names_done}
 use Rattle.someip_payload_values.proofs.names.are_names.Goals as goal

@@ -1,7 +1,6 @@
-use Rattle.std.proofs.Common.{rules, ◌≡◌, ◌++◌, ◌∙◌, sym, ap, [], refl, option_map}
+use Rattle.std.proofs.Common.{rules, ◌≡◌, ◌∙◌, sym, ap, [], refl, option_map}
 use Rattle.std.proofs.Output.{has_written_append, has_written_of_eq}
-use Rattle.std.specs.Fmt.{HasWritten, IsPlainFormatter}
-use Rattle.someip_payload_values.specs.View.{form, forms, all_members, data_of, data_of_all, slots_of}
+use Rattle.someip_payload_values.specs.View.{form, data_of, slots_of}
 use Rattle.someip_payload_values.specs.Data.{slotted}
 use Rattle.someip_payload_values.specs.ValueText.{or_bool, data_text}
 use Rattle.someip_payload_values.proofs.Shapes.{data_of-Tagged}

@@ -2,12 +2,12 @@ use Rattle.std.proofs.Common.{rules, ◌≡◌, None, Some, true, string_bytes, 
 use Rattle.std.proofs.lemmas.Result.{err_from_is_err_and}
 use Rattle.std.specs.Str.{is_utf8}
 use Rattle.std.proofs.lemmas.Str.{IsUtf8-string_bytes, is_utf8-from_IsUtf8}
-use Rattle.someip_payload_values.specs.Data.{u8, u16, u32, u64, i8, i16, i32, i64, unsigned, signed, padded, named, enumerated, array, fixed, «struct», union, tagged, string, uint, int, phrase, list, tuple, slotted}
+use Rattle.someip_payload_values.specs.Data.{u8, u16, u32, u64, i8, i16, i32, i64, unsigned, signed, padded, array, fixed, «struct», union, tagged, string, uint, int, phrase, list, tuple, slotted}
 use Rattle.someip_payload_values.specs.declared.shape.Width.TheVariants.{W32}
 use Rattle.someip_payload_values.specs.declared.number.Order.TheVariants.{Little}
 use Rattle.someip_payload_values.specs.declared.number.Size.TheVariants.{S16, S32, S64}
-use Rattle.someip_payload_values.specs.View.{form, forms, all_variants, all_members, labels_of, data_of, data_of_all, data_of_choice, slots_of}
-use Rattle.someip_payload_values.proofs.Shapes.{form-U8, form-U16, form-U32, form-U64, form-I8, form-I16, form-I32, form-I64, form-U16Le, form-U32Le, form-U64Le, form-I16Le, form-I32Le, form-I64Le, form-Text, form-FixedText, form-FramedFixed, form-SizedUnion, form-Named, form-Enum, form-Array, form-Fixed, form-Struct, form-Union, form-Tagged, data_of-Uint, data_of-Int, data_of-Text, data_of-List, data_of-Struct, data_of-Union, data_of-Tagged}
+use Rattle.someip_payload_values.specs.View.{form, forms, all_variants, all_members, data_of, data_of_all, data_of_choice, slots_of}
+use Rattle.someip_payload_values.proofs.Shapes.{form-U8, form-U16, form-U32, form-U64, form-I8, form-I16, form-I32, form-I64, form-U16Le, form-U32Le, form-U64Le, form-I16Le, form-I32Le, form-I64Le, form-Text, form-FixedText, form-FramedFixed, form-SizedUnion, form-Array, form-Fixed, form-Struct, form-Union, form-Tagged, data_of-Uint, data_of-Int, data_of-Text, data_of-List, data_of-Struct, data_of-Union, data_of-Tagged}
 use Rattle.someip_payload_values.specs.Writing.{text_of, body_text, slots_text}
 use Rattle.someip_payload_values.specs.Steps.{◌>>=◌}
 use Rattle.someip_payload_values.proofs.StepLemmas.{fails_too}
