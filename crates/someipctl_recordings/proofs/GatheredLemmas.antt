@@ -1,5 +1,5 @@
 -- Stores as moments pass, and the items of a datagram one by one.
-use Rattle.std.proofs.Common.{◌≡◌, ◌≤◌, ◌||◌, ℕ, Bool, true, false, List, [], ◌∷◌, length, Option, None, Some, Result, refl, sym, ap, ◌∙◌, arith}
+use Rattle.std.proofs.Common.{◌≡◌, ◌≤◌, ◌<◌, ◌+◌, ◌||◌, ℕ, Bool, true, false, List, [], ◌∷◌, length, Option, None, Some, Result, refl, sym, subst, ap, ◌∙◌, arith}
 use Rattle.std.proofs.lemmas.List.{nil_from_length}
 use Rattle.someip_wire.specs.declared.WireError.{WireError}
 use Rattle.someip_wire.specs.Spelling.{MessageValue}
@@ -7,7 +7,11 @@ use Rattle.someip_wire.specs.Reading.{items_of}
 use Rattle.someip_wire.proofs.DatagramLemmas.{items_from-nil}
 use Rattle.someip_reassembly.specs.Parts.{Parts}
 use Rattle.someipctl_recordings.specs.Gathered.{IsInTime, StoreValue, store_after}
-use Rattle.someipctl_recordings.specs.RecordedText.{Scene, has_fault_with, records_fault}
+use Rattle.someipctl_recordings.specs.RecordedText.{AreItemLines, AreLinesOf, AreLinesWith, IsSceneText, Scene, has_fault_with, records_fault}
+use Rattle.someipctl_io.specs.Items.{item_len}
+use Rattle.someipctl_io.specs.Lines.{empty_line}
+use Rattle.someipctl_show.specs.TextKinds.{Joined}
+use Rattle.someipctl_show.proofs.KindLemmas.{IsSendingOne}
 
 -- no part had a segment after a later moment
 pub later : {S : Type 0} (parts : S → Parts) (store : Option S) (now next : ℕ) → now ≤ next → IsInTime parts now store → IsInTime parts next store
@@ -27,3 +31,20 @@ pub fault_more : (c : Scene) (store : Option StoreValue) (so_far all : Bool) (it
     → (so_far || has_fault_with c store items) ≡ all → ((so_far || records_fault c store item) || has_fault_with c (store_after store c.now c.datagram item) rest) ≡ all
 fault_more c store so_far all items rest item is h =
     or_assoc so_far (records_fault c store item) (has_fault_with c (store_after store c.now c.datagram item) rest) ∙ ap (λ l. so_far || has_fault_with c store l) (sym is) ∙ h
+
+-- what is still to send, where the next item is known
+pub next_lines : (c : Scene) (store : Option StoreValue) (place : ℕ) (a b : Option (List ℕ)) (held waits : List ℕ) (All : List ℕ → Type 0) (items : List (Result MessageValue WireError)) (item : Result MessageValue WireError)
+    (rest : List (Result MessageValue WireError)) → items ≡ item ∷ rest → IsSendingOne a held b waits (AreLinesWith c store place items) All
+    → IsSendingOne a held b waits (Joined (AreItemLines c store place item) (AreLinesWith c (store_after store c.now c.datagram item) (place + item_len item) rest)) All
+next_lines c store place a b held waits All items item rest is s = subst (λ i. IsSendingOne a held b waits (AreLinesWith c store place i) All) is s
+
+-- the lines of a datagram's bytes
+pub empty_scene : (c : Scene) (store : Option StoreValue) → length c.datagram.payload ≡ 0 → IsSceneText c store (empty_line c.k)
+empty_scene c store none = subst (λ bytes. AreLinesOf c store bytes (empty_line c.k)) (sym (nil_from_length c.datagram.payload none)) refl
+
+lines_of_some : (c : Scene) (store : Option StoreValue) (bytes : List ℕ) → 0 < length bytes → (text : List ℕ) → AreLinesWith c store 0 (items_of bytes) text → AreLinesOf c store bytes text
+lines_of_some c store [] lt text are = absurd (omega (arith, lt))
+lines_of_some c store (b ∷ bytes) lt text are = are
+
+pub lines_scene : (c : Scene) (store : Option StoreValue) → 0 < length c.datagram.payload → (text : List ℕ) → AreLinesWith c store 0 (items_of c.datagram.payload) text → IsSceneText c store text
+lines_scene c store lt text are = lines_of_some c store c.datagram.payload lt text are

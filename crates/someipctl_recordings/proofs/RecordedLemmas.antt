@@ -1,5 +1,5 @@
 -- The records of a recording: what is left out of them, and what is shown of the others.
-use Rattle.std.proofs.Common.{◌≡◌, ℕ, ◌+◌, List, [], ◌∷◌, ◌++◌, None, Some, Ok, Err, refl, sym, ap, ◌∙◌, append_assoc, arith}
+use Rattle.std.proofs.Common.{◌≡◌, ℕ, ◌+◌, List, [], ◌∷◌, ◌++◌, None, Some, Ok, Err, refl, sym, subst, ap, ◌∙◌, append_assoc, arith}
 use Rattle.std.specs.Option.{option_to_list}
 use Rattle.std.proofs.lemmas.Grind.{flat_map-append}
 use Rattle.std.proofs.lemmas.List.{append-nil}
@@ -10,7 +10,8 @@ use Rattle.recording.specs.Records.{Item}
 use Rattle.someipctl_recordings.specs.declared.left_out.LeftOut.{LeftOut}
 use Rattle.someipctl_recordings.specs.LeftOut.{counted, left_out_of, nothing_left_out, plus}
 use Rattle.someipctl_recordings.specs.Asked.{AskedValue, asked_in, asked_of}
-use Rattle.someipctl_recordings.specs.RecordedText.{Progress, after_all, after_datagram, recorded_from, recorded_text}
+use Rattle.someipctl_recordings.specs.RecordedText.{AreRecorded, IsRecordedText, Progress, after_all, after_datagram}
+use Rattle.someipctl_show.specs.TextKinds.{Joined}
 use Rattle.someipctl_recordings.specs.RecordingResult.{fault_among}
 
 -- ---- what is left out
@@ -57,20 +58,28 @@ fault-append (Err fault ∷ items) others none = absurd cc
 
 -- ---- what is shown
 
--- the text of datagrams and of others after them
-pub recorded-append : (asked : AskedValue) (p : Progress) (ds others : List DatagramValue) → recorded_from asked p (ds ++ others) ≡ recorded_from asked p ds ++ recorded_from asked (after_all asked p ds) others
-recorded-append asked p [] others = refl
-recorded-append asked p (d ∷ ds) others =
-    ap (λ (t : List ℕ). recorded_text asked p d ++ t) (recorded-append asked (after_datagram asked p d) ds others)
-    ∙ sym (append_assoc (recorded_text asked p d) (recorded_from asked (after_datagram asked p d) ds) (recorded_from asked (after_all asked p (d ∷ ds)) others))
+-- a text of datagrams, and of others after them
+pub recorded_join : (asked : AskedValue) (p : Progress) (ds others : List DatagramValue) (text : List ℕ) → Joined (AreRecorded asked p ds) (AreRecorded asked (after_all asked p ds) others) text
+    → AreRecorded asked p (ds ++ others) text
+recorded_join asked p [] others text both = subst (AreRecorded asked p others) (sym (both.2 ∙ ap (λ (t : List ℕ). t ++ both.1) both.3)) both.4
+recorded_join asked p (d ∷ ds) others text both =
+    let own = both.3 in (
+      own.0,
+      own.1 ++ both.1,
+      both.2 ∙ ap (λ (t : List ℕ). t ++ both.1) own.2 ∙ append_assoc own.0 own.1 both.1,
+      own.3,
+      recorded_join asked (after_datagram asked p d) ds others (own.1 ++ both.1) (own.1, both.1, refl, own.4, both.4),
+    )
 
 pub after-append : (asked : AskedValue) (p : Progress) (ds others : List DatagramValue) → after_all asked p (ds ++ others) ≡ after_all asked (after_all asked p ds) others
 after-append asked p [] others = refl
 after-append asked p (d ∷ ds) others = after-append asked (after_datagram asked p d) ds others
 
 -- the next record gives a datagram that is asked for
-pub recorded_one : (asked : AskedValue) (p : Progress) (item : Item) (d : DatagramValue) → asked_in asked item ≡ Some d → recorded_from asked p (asked_of asked (item ∷ [])) ≡ recorded_text asked p d
-recorded_one asked p item d is = ap (λ o. recorded_from asked p (option_to_list o ++ [])) is ∙ append-nil (recorded_text asked p d)
+pub recorded_one : (asked : AskedValue) (p : Progress) (item : Item) (d : DatagramValue) → asked_in asked item ≡ Some d → (text : List ℕ) → IsRecordedText asked p d text
+    → AreRecorded asked p (asked_of asked (item ∷ [])) text
+recorded_one asked p item d is text one =
+    subst (λ o. AreRecorded asked p (option_to_list o ++ []) text) (sym is) (text, [], sym (append-nil text), one, refl)
 
 pub after_one : (asked : AskedValue) (p : Progress) (item : Item) (d : DatagramValue) → asked_in asked item ≡ Some d → after_all asked p (asked_of asked (item ∷ [])) ≡ after_datagram asked p d
 after_one asked p item d is = ap (λ o. after_all asked p (option_to_list o ++ [])) is

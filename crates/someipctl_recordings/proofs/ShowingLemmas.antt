@@ -9,32 +9,39 @@ use Rattle.recording.specs.HeldItems.{held_of}
 use Rattle.recording.specs.Readers.{ReaderValue, CanFollow, to_come}
 use Rattle.someipctl_io.specs.Outcomes.{fault_outcome}
 use Rattle.someipctl_io.specs.Sending.{Sends, Stops}
-use Rattle.someipctl_io.proofs.SendingLemmas.{Sends-all, Stops-flush, Sends-flush, Sends-nil, Sends-trans, Stops-after, Stops-before}
-use Rattle.someipctl_show.proofs.ShowResultLemmas.{Stops-none}
+use Rattle.someipctl_io.proofs.SendingLemmas.{Sends-nil}
+use Rattle.someipctl_show.specs.TextKinds.{Joined, SendsOne, StopsOne}
+use Rattle.someipctl_show.proofs.KindLemmas.{sends_all, sends_as, sends_both, sends_flush, stops_as, stops_first, stops_flush, stops_second}
+use Rattle.someipctl_show.proofs.KindLemmas.{Stops-none}
 use Rattle.someipctl_recordings.specs.declared.recordings.Shown.{Shown}
 use Rattle.someipctl_recordings.specs.declared.recordings.ShownRecording.{ShownRecording}
 use Rattle.someipctl_recordings.specs.Gathered.{StoreValue}
 use Rattle.someipctl_recordings.specs.declared.left_out.LeftOut.{LeftOut}
 use Rattle.someipctl_recordings.specs.LeftOut.{left_out_of, nothing_left_out, plus, total}
 use Rattle.someipctl_recordings.specs.Asked.{AskedValue, asked_of, is_asked}
-use Rattle.someipctl_recordings.specs.RecordedText.{Progress, after_all, at_first, recorded_from}
+use Rattle.someipctl_recordings.specs.RecordedText.{AreRecorded, Progress, after_all, at_first}
 use Rattle.someipctl_recordings.specs.Coming.{Comes}
-use Rattle.someipctl_recordings.specs.RecordingResult.{BeginsRecording, PutsRecording, ShowsRecording, fault_among, progress_of, shown_recording, text_of}
+use Rattle.someipctl_recordings.specs.RecordingResult.{BeginsRecording, IsRecordingText, PutsRecording, ShowsRecording, fault_among, progress_of, shown_recording}
 use Rattle.someipctl_recordings.proofs.ComingLemmas.{begin, comes_both, comes_none, whole_file, part_file}
-use Rattle.someipctl_recordings.proofs.RecordedLemmas.{after-append, asked-append, fault-append, left_out-append, plus-nothing, recorded-append}
+use Rattle.someipctl_recordings.proofs.RecordedLemmas.{after-append, asked-append, fault-append, left_out-append, plus-nothing, recorded_join}
+use Rattle.someipctl_recordings.proofs.SomeRecorded.{some_recorded}
 
--- the text of what came so far, and the progress after it
-abbrev so_far : AskedValue → List Item → List ℕ
-so_far asked items = recorded_from asked (at_first asked) (asked_of asked items)
+-- a text of what came so far, and the progress after it
+abbrev SoFar : AskedValue → List Item → List ℕ → Type 0
+SoFar asked items text = AreRecorded asked (at_first asked) (asked_of asked items) text
 
 abbrev progress : AskedValue → List Item → Progress
 progress asked items = after_all asked (at_first asked) (asked_of asked items)
+
+-- a text of the items that come next
+abbrev Next : AskedValue → List Item → List Item → List ℕ → Type 0
+Next asked done items text = AreRecorded asked (progress asked done) (asked_of asked items) text
 
 -- the items that came were shown, and none of them is a fault
 pub record IsShown (asked : AskedValue) (r : ReaderValue) (were are before after : Option (List ℕ)) (held : List ℕ) (shown : Shown) (store : Option StoreValue) : Type 0 where
   pub done : List Item
   pub comes : Comes begin r were are done
-  pub sends : Sends before [] after held (so_far asked done)
+  pub sends : SendsOne (SoFar asked done) before [] after held
   pub progressed : progress_of shown store ≡ progress asked done
   pub left_out : shown.left_out ≡ left_out_of done
   pub none : fault_among done ≡ None
@@ -44,7 +51,7 @@ pub shown_begin : (asked : AskedValue) (r : ReaderValue) (known before : Option 
 shown_begin asked r known before held shown store is empty first nothing = record {
   done = [];
   comes = subst (λ r. Comes begin r known known []) (sym is) (comes_none begin known);
-  sends = rw empty (Sends-nil before []);
+  sends = ([], refl, rw empty (Sends-nil before []));
   progressed = first;
   left_out = nothing;
   none = refl;
@@ -52,63 +59,59 @@ shown_begin asked r known before held shown store is empty first nothing = recor
 
 -- ---- a beginning of the text
 
--- the text of items and of others after them
-next_text : (asked : AskedValue) (done items : List Item) → so_far asked done ++ recorded_from asked (progress asked done) (asked_of asked items) ≡ so_far asked (done ++ items)
-next_text asked done items =
-    sym (ap (recorded_from asked (at_first asked)) (asked-append asked done items) ∙ recorded-append asked (at_first asked) (asked_of asked done) (asked_of asked items))
+-- a text of items and of others after them
+next_text : (asked : AskedValue) (done items : List Item) (text : List ℕ) → Joined (SoFar asked done) (Next asked done items) text → SoFar asked (done ++ items) text
+next_text asked done items text both =
+    subst (λ ds. AreRecorded asked (at_first asked) ds text) (sym (asked-append asked done items)) (recorded_join asked (at_first asked) (asked_of asked done) (asked_of asked items) text both)
 
 pub begins : (asked : AskedValue) (r : ReaderValue) (were are before after : Option (List ℕ)) (items : List Item) → Comes begin r were are items
-    → Stops before [] after (so_far asked items) → BeginsRecording were asked before after
+    → StopsOne (SoFar asked items) before [] after → BeginsRecording were asked before after
 begins asked r were are before after items comes stops =
     let f = part_file r were are items comes in
-    let rest = recorded_from asked (progress asked items) (asked_of asked f.1) in
-    let text : so_far asked items ++ rest ≡ text_of asked f.0 = next_text asked items f.1 ∙ sym (ap (so_far asked) f.3) in
-    let all = Stops-before before after [] (so_far asked items) rest stops in
+    let all = stops_first (SoFar asked items) (Next asked items f.1) before after [] stops (some_recorded asked (progress asked items) (asked_of asked f.1)) in
+    let shows : IsRecordingText asked f.0 all.0 = subst (λ given. SoFar asked given all.0) (sym f.3) (next_text asked items f.1 all.0 all.1) in
     record {
       file = f.0;
       left = f.2;
-      sent = all.sends.sent;
-      unsent = all.unsent;
-      wrote = all.sends.wrote;
-      beginning = all.sends.rest ∙ text;
+      sent = all.2.sends.sent;
+      unsent = all.2.unsent;
+      wrote = all.2.sends.wrote;
+      shows = subst (IsRecordingText asked f.0) (sym all.2.sends.rest) shows;
     }
 
 -- nothing was written
 pub begins_nothing : (asked : AskedValue) (known before : Option (List ℕ)) → BeginsRecording known asked before before
-begins_nothing asked known before = begins asked begin known known before before [] (comes_none begin known) (Stops-none before [] [])
+begins_nothing asked known before = begins asked begin known known before before [] (comes_none begin known) ([], refl, Stops-none before [] [])
 
 -- where showing stops before the next item
 pub stops_before : (asked : AskedValue) (r : ReaderValue) (were are before after later : Option (List ℕ)) (held : List ℕ) (shown : Shown) (store : Option StoreValue)
     → IsShown asked r were are before after held shown store → Stops after held later [] → BeginsRecording were asked before later
 stops_before asked r were are before after later held shown store is stops =
-    begins asked r were are before later is.done is.comes
-    (subst (Stops before [] later) (append-nil (so_far asked is.done)) (Stops-after before after later [] held (so_far asked is.done) [] is.sends stops))
+    begins asked r were are before later is.done is.comes (stops_flush (SoFar asked is.done) before after later [] held is.sends stops)
 
 -- where it stops within the next items
 pub stops_within : (asked : AskedValue) (r new : ReaderValue) (were are now before after later last : Option (List ℕ)) (held waits : List ℕ) (shown : Shown) (store : Option StoreValue) (items : List Item)
     → IsShown asked r were are before after held shown store → Comes r new are now items → Sends after held later waits []
-    → Stops later waits last (recorded_from asked (progress_of shown store) (asked_of asked items)) → BeginsRecording were asked before last
+    → StopsOne (AreRecorded asked (progress_of shown store) (asked_of asked items)) later waits last → BeginsRecording were asked before last
 stops_within asked r new were are now before after later last held waits shown store items is comes sends stops =
     begins asked new were now before last (is.done ++ items) (comes_both begin r new were are now is.done items is.comes comes)
-    (subst (Stops before [] last) (next_text asked is.done items)
-    (Stops-after before later last [] waits (so_far asked is.done) (recorded_from asked (progress asked is.done) (asked_of asked items))
-    (Sends-flush before after later [] held waits (so_far asked is.done) is.sends sends)
-    (subst (λ p. Stops later waits last (recorded_from asked p (asked_of asked items))) is.progressed stops)))
+    (stops_as (Joined (SoFar asked is.done) (Next asked is.done items)) (SoFar asked (is.done ++ items)) before last [] (next_text asked is.done items)
+    (stops_second (SoFar asked is.done) (Next asked is.done items) before later last [] waits (sends_flush (SoFar asked is.done) before after later [] held waits is.sends sends)
+    (subst (λ p. StopsOne (AreRecorded asked p (asked_of asked items)) later waits last) is.progressed stops)))
 
 -- ---- the next items
 
 pub shown_more : (asked : AskedValue) (r new : ReaderValue) (were are now before after later last : Option (List ℕ)) (held waits rest : List ℕ) (shown more : Shown) (store next : Option StoreValue) (items : List Item)
     → IsShown asked r were are before after held shown store → Comes r new are now items → Sends after held later waits []
-    → Sends later waits last rest (recorded_from asked (progress_of shown store) (asked_of asked items)) → progress_of more next ≡ after_all asked (progress_of shown store) (asked_of asked items)
+    → SendsOne (AreRecorded asked (progress_of shown store) (asked_of asked items)) later waits last rest → progress_of more next ≡ after_all asked (progress_of shown store) (asked_of asked items)
     → more.left_out ≡ plus shown.left_out (left_out_of items) → fault_among items ≡ None
     → IsShown asked new were now before last rest more next
 shown_more asked r new were are now before after later last held waits rest shown more store next items is comes sends prints progresses counts none = record {
   done = is.done ++ items;
   comes = comes_both begin r new were are now is.done items is.comes comes;
-  sends = subst (Sends before [] last rest) (next_text asked is.done items)
-      (Sends-trans before later last [] waits rest (so_far asked is.done) (recorded_from asked (progress asked is.done) (asked_of asked items))
-      (Sends-flush before after later [] held waits (so_far asked is.done) is.sends sends)
-      (subst (λ p. Sends later waits last rest (recorded_from asked p (asked_of asked items))) is.progressed prints));
+  sends = sends_as (Joined (SoFar asked is.done) (Next asked is.done items)) (SoFar asked (is.done ++ items)) before last [] rest (next_text asked is.done items)
+      (sends_both (SoFar asked is.done) (Next asked is.done items) before later last [] waits rest (sends_flush (SoFar asked is.done) before after later [] held waits is.sends sends)
+      (subst (λ p. SendsOne (AreRecorded asked p (asked_of asked items)) later waits last rest) is.progressed prints));
   progressed = progresses ∙ ap (λ p. after_all asked p (asked_of asked items)) is.progressed
       ∙ sym (ap (after_all asked (at_first asked)) (asked-append asked is.done items) ∙ after-append asked (at_first asked) (asked_of asked is.done) (asked_of asked items));
   left_out = counts ∙ ap (λ l. plus l (left_out_of items)) is.left_out ∙ sym (left_out-append is.done items);
@@ -119,7 +122,7 @@ shown_more asked r new were are now before after later last held waits rest show
 pub shown_none : (asked : AskedValue) (r new : ReaderValue) (were are now before after later : Option (List ℕ)) (held waits : List ℕ) (shown : Shown) (store : Option StoreValue)
     → IsShown asked r were are before after held shown store → Comes r new are now [] → Sends after held later waits [] → IsShown asked new were now before later waits shown store
 shown_none asked r new were are now before after later held waits shown store is comes sends =
-    shown_more asked r new were are now before after later later held waits waits shown shown store store [] is comes sends (Sends-nil later waits) refl (sym (plus-nothing shown.left_out)) refl
+    shown_more asked r new were are now before after later later held waits waits shown shown store store [] is comes sends ([], refl, Sends-nil later waits) refl (sym (plus-nothing shown.left_out)) refl
 
 -- a record counts as one at most
 pub count_one : (asked : AskedValue) (p : Progress) (r : RecordValue) → (after_all asked p (asked_of asked (Ok r ∷ []))).datagrams + total (left_out_of (Ok r ∷ [])) ≤ p.datagrams + 1
@@ -161,7 +164,7 @@ puts_all asked r new were are now before after later held waits shown store item
       file = f.0;
       left = f.1;
       ends = sym (ap fault_among f.2 ∙ fault-append is.done items is.none ∙ last);
-      sends = subst (Sends before [] later waits) (sym (ap (recorded_from asked (at_first asked)) same)) (Sends-flush before after later [] held waits (so_far asked is.done) is.sends sends);
+      sends = subst (λ ds. SendsOne (AreRecorded asked (at_first asked) ds) before [] later waits) (sym same) (sends_flush (SoFar asked is.done) before after later [] held waits is.sends sends);
       tells = ap (λ (p : Progress). fault_outcome p.is_faulty) (is.progressed ∙ sym (ap (after_all asked (at_first asked)) same));
       counts = is.left_out ∙ sym (ap left_out_of f.2 ∙ left_out-append is.done items ∙ ap (plus (left_out_of is.done)) uncounted ∙ plus-nothing (left_out_of is.done));
     }
@@ -171,16 +174,18 @@ puts_all asked r new were are now before after later held waits shown store item
 pub puts_begun : (asked : AskedValue) (input before later last : Option (List ℕ)) (waits : List ℕ) (shown : ShownRecording) → PutsRecording input asked shown before later waits
     → Stops later waits last [] → BeginsRecording input asked before last
 puts_begun asked input before later last waits shown p stops =
-    let all = Stops-flush before later last [] waits (text_of asked p.file) p.sends stops in
-    record { file = p.file; left = p.left; sent = all.sends.sent; unsent = all.unsent; wrote = all.sends.wrote; beginning = all.sends.rest }
+    let all = stops_flush (IsRecordingText asked p.file) before later last [] waits p.sends stops in
+    record {
+      file = p.file;
+      left = p.left;
+      sent = all.2.sends.sent;
+      unsent = all.2.unsent;
+      wrote = all.2.sends.wrote;
+      shows = subst (IsRecordingText asked p.file) (sym all.2.sends.rest) all.1;
+    }
 
 pub puts_shown : (asked : AskedValue) (input before later last : Option (List ℕ)) (waits new : List ℕ) (shown : ShownRecording) → PutsRecording input asked shown before later waits
     → Sends later waits last new [] → new ≡ [] → ShowsRecording input asked shown before last
-puts_shown asked input before later last waits new shown p sends empty = record {
-  file = p.file;
-  left = p.left;
-  ends = p.ends;
-  wrote = Sends-all before last [] new (text_of asked p.file) (Sends-flush before later last [] waits new (text_of asked p.file) p.sends sends) refl empty;
-  tells = p.tells;
-  counts = p.counts;
-}
+puts_shown asked input before later last waits new shown p sends empty =
+    let all = sends_all (IsRecordingText asked p.file) before later last [] waits new p.sends sends refl empty in
+    record { file = p.file; left = p.left; ends = p.ends; text = all.0; shows = all.1; wrote = all.2; tells = p.tells; counts = p.counts }

@@ -1,5 +1,5 @@
--- The text that `recording` prints of a recording.
-use Rattle.std.specs.Prelude.{ℕ, ◌+◌, Bool, true, false, ◌==◌, ◌||◌, if◌then◌else◌, List, [], ◌∷◌, ◌++◌, drop, codes, decimal, Option, Some, None, Result, Ok, Err}
+-- The texts of which `recording` prints one of a recording.
+use Rattle.std.specs.Prelude.{ℕ, ◌≡◌, ◌+◌, Bool, true, false, ◌==◌, ◌||◌, if◌then◌else◌, List, [], ◌∷◌, ◌++◌, drop, codes, decimal, Option, Some, None, Result, Ok, Err}
 use Rattle.std.specs.Option.{option_map}
 use Rattle.std.specs.FinMap.{empty}
 use Rattle.std.specs.Net.Text.{ipv4_text}
@@ -12,12 +12,13 @@ use Rattle.someip_wire.specs.Reading.{items_of}
 use Rattle.someip_reassembly.specs.declared.TpError.{TpError}
 use Rattle.someip_reassembly.specs.Names.{error_name}
 use Rattle.someip_reassembly.specs.Parts.{Limits}
-use Rattle.someipctl_io.specs.Items.{item_len, item_lines}
+use Rattle.someipctl_io.specs.Items.{item_len}
 use Rattle.someipctl_io.specs.Lines.{dropped_line, empty_line, whole_line}
 use Rattle.someip_texts.specs.Words.{spaced}
 use Rattle.someipctl_show.specs.types.Types.{TypesValue}
-use Rattle.someipctl_show.specs.types.ValueLine.{value_line, has_value_fault}
-use Rattle.someipctl_show.specs.ShownText.{shows_fault, value_of_item}
+use Rattle.someipctl_show.specs.types.ValueLine.{IsValueLine, has_value_fault}
+use Rattle.someipctl_show.specs.ShownText.{IsItemText, shows_fault}
+use Rattle.someipctl_show.specs.TextKinds.{Joined}
 use Rattle.someipctl_recordings.specs.Moments.{moment_of}
 use Rattle.someipctl_recordings.specs.Gathered.{StoreValue, told_of, store_after}
 use Rattle.someipctl_recordings.specs.Asked.{AskedValue}
@@ -54,11 +55,11 @@ pub record Scene : Type 0 where
   pub now : ℕ
   pub datagram : DatagramValue
 
--- the lines of what is told of a segment that is put together
-abbrev pub gathered_lines : TypesValue → ℕ → Option (Result MessageValue TpError) → List ℕ
-gathered_lines types k None = []
-gathered_lines types k (Some (Ok m)) = whole_line k m ++ value_line types k 0 m
-gathered_lines types k (Some (Err refusal)) = dropped_line k (error_name refusal)
+-- the lines of what is told of a segment that is put together, with one of the value of a whole message
+abbrev pub IsGatheredText : TypesValue → ℕ → Option (Result MessageValue TpError) → List ℕ → Type 0
+IsGatheredText types k None text = text ≡ []
+IsGatheredText types k (Some (Ok m)) text = (value : List ℕ) × IsValueLine types k 0 m value × (text ≡ whole_line k m ++ value)
+IsGatheredText types k (Some (Err refusal)) text = text ≡ dropped_line k (error_name refusal)
 
 -- a fault is shown of the value of the whole message
 abbrev pub gathers_fault : TypesValue → Option (Result MessageValue TpError) → Bool
@@ -67,18 +68,18 @@ gathers_fault types (Some (Ok m)) = has_value_fault types m
 gathers_fault types (Some (Err refusal)) = false
 
 -- the lines of an item that begins at this place, where the store is this one before it
-abbrev pub recorded_lines : Scene → Option StoreValue → ℕ → Result MessageValue WireError → List ℕ
-recorded_lines c store place item =
-    item_lines c.k place (value_of_item c.types c.k place item) item ++ gathered_lines c.types c.k (told_of store c.now c.datagram item)
+abbrev pub AreItemLines : Scene → Option StoreValue → ℕ → Result MessageValue WireError → List ℕ → Type 0
+AreItemLines c store place item text =
+    Joined (IsItemText c.types c.k place item) (IsGatheredText c.types c.k (told_of store c.now c.datagram item)) text
 
 abbrev pub records_fault : Scene → Option StoreValue → Result MessageValue WireError → Bool
 records_fault c store item = shows_fault c.types item || gathers_fault c.types (told_of store c.now c.datagram item)
 
 -- those of the items of the datagram in order, the first of which begins at this place
-abbrev pub lines_with : Scene → Option StoreValue → ℕ → List (Result MessageValue WireError) → List ℕ
-lines_with c store place [] = []
-lines_with c store place (item ∷ items) =
-    recorded_lines c store place item ++ lines_with c (store_after store c.now c.datagram item) (place + item_len item) items
+abbrev pub AreLinesWith : Scene → Option StoreValue → ℕ → List (Result MessageValue WireError) → List ℕ → Type 0
+AreLinesWith c store place [] text = text ≡ []
+AreLinesWith c store place (item ∷ items) text =
+    Joined (AreItemLines c store place item) (AreLinesWith c (store_after store c.now c.datagram item) (place + item_len item) items) text
 
 abbrev pub has_fault_with : Scene → Option StoreValue → List (Result MessageValue WireError) → Bool
 has_fault_with c store [] = false
@@ -90,12 +91,12 @@ store_after_all store now d [] = store
 store_after_all store now d (item ∷ items) = store_after_all (store_after store now d item) now d items
 
 -- the lines of the datagram with these bytes, or that it is empty
-abbrev pub lines_of_bytes : Scene → Option StoreValue → List ℕ → List ℕ
-lines_of_bytes c store [] = empty_line c.k
-lines_of_bytes c store (b ∷ bytes) = lines_with c store 0 (items_of (b ∷ bytes))
+abbrev pub AreLinesOf : Scene → Option StoreValue → List ℕ → List ℕ → Type 0
+AreLinesOf c store [] text = text ≡ empty_line c.k
+AreLinesOf c store (b ∷ bytes) text = AreLinesWith c store 0 (items_of (b ∷ bytes)) text
 
-abbrev pub scene_text : Scene → Option StoreValue → List ℕ
-scene_text c store = lines_of_bytes c store c.datagram.payload
+abbrev pub IsSceneText : Scene → Option StoreValue → List ℕ → Type 0
+IsSceneText c store text = AreLinesOf c store c.datagram.payload text
 
 -- ---- the text
 
@@ -116,9 +117,13 @@ abbrev pub headed_text : Bool → DatagramValue → List ℕ → List ℕ
 headed_text false d text = text
 headed_text true d text = with_heads (head_text d) true text
 
--- the text of the next datagram
-abbrev pub recorded_text : AskedValue → Progress → DatagramValue → List ℕ
-recorded_text asked p d = headed_text asked.endpoints d (scene_text (scene_of asked p d) p.store)
+-- the same of one of some texts
+abbrev pub Headed : Bool → DatagramValue → (List ℕ → Type 0) → List ℕ → Type 0
+Headed endpoints d Kind text = (lines : List ℕ) × Kind lines × (text ≡ headed_text endpoints d lines)
+
+-- a text of the next datagram
+abbrev pub IsRecordedText : AskedValue → Progress → DatagramValue → List ℕ → Type 0
+IsRecordedText asked p d text = Headed asked.endpoints d (IsSceneText (scene_of asked p d) p.store) text
 
 abbrev pub after_datagram : AskedValue → Progress → DatagramValue → Progress
 after_datagram asked p d = record {
@@ -128,10 +133,10 @@ after_datagram asked p d = record {
   is_faulty = p.is_faulty || has_fault_with (scene_of asked p d) p.store (items_of d.payload);
 }
 
--- the text of the next datagrams, in order
-abbrev pub recorded_from : AskedValue → Progress → List DatagramValue → List ℕ
-recorded_from asked p [] = []
-recorded_from asked p (d ∷ others) = recorded_text asked p d ++ recorded_from asked (after_datagram asked p d) others
+-- texts of the next datagrams, in order
+abbrev pub AreRecorded : AskedValue → Progress → List DatagramValue → List ℕ → Type 0
+AreRecorded asked p [] text = text ≡ []
+AreRecorded asked p (d ∷ others) text = Joined (IsRecordedText asked p d) (AreRecorded asked (after_datagram asked p d) others) text
 
 abbrev pub after_all : AskedValue → Progress → List DatagramValue → Progress
 after_all asked p [] = p

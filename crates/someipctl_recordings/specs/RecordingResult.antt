@@ -13,11 +13,11 @@ use Rattle.someipctl_recordings.specs.declared.recordings.Shown.{Shown}
 use Rattle.someipctl_recordings.specs.declared.recordings.ShownRecording.{ShownRecording}
 use Rattle.someipctl_io.specs.Inputs.{WasLeft}
 use Rattle.someipctl_io.specs.Outcomes.{fault_outcome}
-use Rattle.someipctl_io.specs.Sending.{Sends}
 use Rattle.someipctl_recordings.specs.LeftOut.{left_out_of, nothing_left_out}
 use Rattle.someipctl_recordings.specs.Gathered.{StoreValue}
 use Rattle.someipctl_recordings.specs.Asked.{AskedValue, asked_of}
-use Rattle.someipctl_recordings.specs.RecordedText.{Progress, after_all, at_first, recorded_from}
+use Rattle.someipctl_recordings.specs.RecordedText.{AreRecorded, Progress, after_all, at_first}
+use Rattle.someipctl_show.specs.TextKinds.{SendsOne}
 
 -- ---- what is asked for
 
@@ -45,40 +45,42 @@ fault_among [] = None
 fault_among (Ok r ∷ items) = fault_among items
 fault_among (Err fault ∷ items) = Some fault
 
--- the text of what is asked of a recording, up to the fault that ends it, if one does
-abbrev pub text_of : AskedValue → List ℕ → List ℕ
-text_of asked file = recorded_from asked (at_first asked) (asked_of asked (held_of file))
+-- a text of what is asked of a recording, up to the fault that ends it, if one does
+abbrev pub IsRecordingText : AskedValue → List ℕ → List ℕ → Type 0
+IsRecordingText asked file text = AreRecorded asked (at_first asked) (asked_of asked (held_of file)) text
 
 -- a fault was shown of a message that is asked for
 abbrev pub is_faulty_of : AskedValue → List ℕ → Bool
 is_faulty_of asked file = (after_all asked (at_first asked) (asked_of asked (held_of file))).is_faulty
 
--- the text of what is asked of a recording was written, up to its fault, and what is told of the recording is so
+-- a text of what is asked of a recording was written, up to its fault, and what is told of the recording is so
 pub record ShowsRecording (input : Option (List ℕ)) (asked : AskedValue) (shown : ShownRecording) (before after : Option (List ℕ)) : Type 0 where
   pub file : List ℕ
   pub left : WasLeft input file
   pub ends : shown.fault ≡ fault_among (held_of file)
-  pub wrote : Appends before after (text_of asked file)
+  pub text : List ℕ
+  pub shows : IsRecordingText asked file text
+  pub wrote : Appends before after text
   pub tells : shown.outcome ≡ fault_outcome (is_faulty_of asked file)
   pub counts : shown.left_out ≡ left_out_of (held_of file)
 
--- a beginning of that text was written, which may be nothing
+-- a beginning of such a text was written, which may be nothing
 pub record BeginsRecording (input : Option (List ℕ)) (asked : AskedValue) (before after : Option (List ℕ)) : Type 0 where
   pub file : List ℕ
   pub left : WasLeft input file
   pub sent : List ℕ
   pub unsent : List ℕ
   pub wrote : Appends before after sent
-  pub beginning : sent ++ unsent ≡ text_of asked file
+  pub shows : IsRecordingText asked file (sent ++ unsent)
 
 -- ---- the same through a buffer
 
--- that text was printed, of which a part may wait in the buffer
+-- such a text was printed, of which a part may wait in the buffer
 pub record PutsRecording (input : Option (List ℕ)) (asked : AskedValue) (shown : ShownRecording) (before after : Option (List ℕ)) (waits : List ℕ) : Type 0 where
   pub file : List ℕ
   pub left : WasLeft input file
   pub ends : shown.fault ≡ fault_among (held_of file)
-  pub sends : Sends before [] after waits (text_of asked file)
+  pub sends : SendsOne (IsRecordingText asked file) before [] after waits
   pub tells : shown.outcome ≡ fault_outcome (is_faulty_of asked file)
   pub counts : shown.left_out ≡ left_out_of (held_of file)
 

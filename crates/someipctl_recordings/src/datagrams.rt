@@ -3,11 +3,11 @@ ghost use Rattle.std.specs.Prelude.{◌≡◌, ◌+◌, ◌≤◌, [], Some, Ok,
 ghost use Rattle.recording.specs.View.{view_datagram};
 ghost use Rattle.someip_wire.specs.Reading.{items_of};
 ghost use Rattle.someip_wire.specs.View.{view, view_item};
-ghost use Rattle.someipctl_io.specs.Sending.{Sends, Stops};
+ghost use Rattle.someipctl_show.specs.TextKinds.{SendsOne, StopsOne};
 ghost use Rattle.someipctl_io.specs.Items.{item_len};
 ghost use Rattle.someipctl_recordings.specs.Gathered.{IsInTime, store_after, view_store, view_told};
-ghost use Rattle.someipctl_recordings.specs.RecordedText.{gathered_lines, gathers_fault, has_fault_with, headed_text};
-ghost use Rattle.someipctl_recordings.specs.RecordedText.{lines_with, recorded_lines, records_fault, scene_text, store_after_all};
+ghost use Rattle.someipctl_recordings.specs.RecordedText.{AreItemLines, AreLinesWith, Headed, IsGatheredText, IsSceneText};
+ghost use Rattle.someipctl_recordings.specs.RecordedText.{gathers_fault, has_fault_with, records_fault, store_after_all};
 ghost use Rattle.someipctl_recordings.specs.Scenes.{scene_by};
 
 use crate::heads::put_with_heads;
@@ -58,9 +58,9 @@ pub(crate) fn put_recorded<S: Reassembly + Drop, W: Write>(
     requires empty { lines.old ≡ [] }
     requires in_time { IsInTime S.parts shown.now.now telling.old.store }
     ensures empty { OnOk result (lines.new ≡ []) }
-    ensures ok { OnOk result (Sends (W.contents writer.old) buffer.old (W.contents writer.new) buffer.new
-        (headed_text endpoints (view_datagram shown.entry.now.datagram) (scene_text
-        (scene_by telling.old.values.types.now shown.entry.now) (view_store S.limits S.parts telling.old.store)))) }
+    ensures ok { OnOk result (SendsOne (Headed endpoints (view_datagram shown.entry.now.datagram) (IsSceneText
+        (scene_by telling.old.values.types.now shown.entry.now) (view_store S.limits S.parts telling.old.store)))
+        (W.contents writer.old) buffer.old (W.contents writer.new) buffer.new) }
     ensures faulty { IfOk result (λ faulty. faulty ≡ has_fault_with
         (scene_by telling.old.values.types.now shown.entry.now) (view_store S.limits S.parts telling.old.store)
         (items_of shown.entry.now.datagram.payload.now)) }
@@ -68,9 +68,9 @@ pub(crate) fn put_recorded<S: Reassembly + Drop, W: Write>(
         (view_store S.limits S.parts telling.old.store) shown.entry.now.now (view_datagram shown.entry.now.datagram)
         (items_of shown.entry.now.datagram.payload.now)) }
     ensures in_time { IsInTime S.parts shown.entry.now.now telling.new.store }
-    ensures err { OnErr result (Stops (W.contents writer.old) buffer.old (W.contents writer.new)
-        (headed_text endpoints (view_datagram shown.entry.now.datagram) (scene_text
-        (scene_by telling.old.values.types.now shown.entry.now) (view_store S.limits S.parts telling.old.store)))) }
+    ensures err { OnErr result (StopsOne (Headed endpoints (view_datagram shown.entry.now.datagram) (IsSceneText
+        (scene_by telling.old.values.types.now shown.entry.now) (view_store S.limits S.parts telling.old.store)))
+        (W.contents writer.old) buffer.old (W.contents writer.new)) }
     ensures types { telling.new.values.types.now ≡ telling.old.values.types.now }
 {
     if !endpoints {
@@ -93,8 +93,8 @@ fn print_to<S: Reassembly + Drop>(
     requires none { text.old.items ≡ [] }
     requires in_time { IsInTime S.parts shown.now.now telling.old.store }
     ensures empty { OnOk result (buffer.new ≡ []) }
-    ensures text { OnOk result (text.new.items ≡ scene_text
-        (scene_by telling.old.values.types.now shown.entry.now) (view_store S.limits S.parts telling.old.store)) }
+    ensures text { OnOk result (IsSceneText (scene_by telling.old.values.types.now shown.entry.now)
+        (view_store S.limits S.parts telling.old.store) text.new.items) }
     ensures faulty { IfOk result (λ faulty. faulty ≡ has_fault_with
         (scene_by telling.old.values.types.now shown.entry.now) (view_store S.limits S.parts telling.old.store)
         (items_of shown.entry.now.datagram.payload.now)) }
@@ -117,9 +117,9 @@ fn put_datagram<S: Reassembly + Drop, W: Write>(
     telling: &mut Telling<'_, S>,
 ) -> Result<bool, PrintFault>
     requires in_time { IsInTime S.parts shown.now.now telling.old.store }
-    ensures ok { OnOk result (Sends (W.contents writer.old) buffer.old (W.contents writer.new) buffer.new
-        (scene_text (scene_by telling.old.values.types.now shown.entry.now)
-        (view_store S.limits S.parts telling.old.store))) }
+    ensures ok { OnOk result (SendsOne (IsSceneText (scene_by telling.old.values.types.now shown.entry.now)
+        (view_store S.limits S.parts telling.old.store))
+        (W.contents writer.old) buffer.old (W.contents writer.new) buffer.new) }
     ensures faulty { IfOk result (λ faulty. faulty ≡ has_fault_with
         (scene_by telling.old.values.types.now shown.entry.now) (view_store S.limits S.parts telling.old.store)
         (items_of shown.entry.now.datagram.payload.now)) }
@@ -127,9 +127,9 @@ fn put_datagram<S: Reassembly + Drop, W: Write>(
         (view_store S.limits S.parts telling.old.store) shown.entry.now.now (view_datagram shown.entry.now.datagram)
         (items_of shown.entry.now.datagram.payload.now)) }
     ensures in_time { IsInTime S.parts shown.entry.now.now telling.new.store }
-    ensures err { OnErr result (Stops (W.contents writer.old) buffer.old (W.contents writer.new)
-        (scene_text (scene_by telling.old.values.types.now shown.entry.now)
-        (view_store S.limits S.parts telling.old.store))) }
+    ensures err { OnErr result (StopsOne (IsSceneText (scene_by telling.old.values.types.now shown.entry.now)
+        (view_store S.limits S.parts telling.old.store))
+        (W.contents writer.old) buffer.old (W.contents writer.new)) }
     ensures types { telling.new.values.types.now ≡ telling.old.values.types.now }
 {
     if shown.datagram.payload.is_empty() {
@@ -147,9 +147,9 @@ fn put_items<S: Reassembly + Drop, W: Write>(
     telling: &mut Telling<'_, S>,
 ) -> Result<bool, PrintFault>
     requires in_time { IsInTime S.parts shown.now.now telling.old.store }
-    ensures ok { OnOk result (Sends (W.contents writer.old) buffer.old (W.contents writer.new) buffer.new
-        (lines_with (scene_by telling.old.values.types.now shown.entry.now)
-        (view_store S.limits S.parts telling.old.store) 0 (items_of shown.entry.now.datagram.payload.now))) }
+    ensures ok { OnOk result (SendsOne (AreLinesWith (scene_by telling.old.values.types.now shown.entry.now)
+        (view_store S.limits S.parts telling.old.store) 0 (items_of shown.entry.now.datagram.payload.now))
+        (W.contents writer.old) buffer.old (W.contents writer.new) buffer.new) }
     ensures faulty { IfOk result (λ faulty. faulty ≡ has_fault_with
         (scene_by telling.old.values.types.now shown.entry.now) (view_store S.limits S.parts telling.old.store)
         (items_of shown.entry.now.datagram.payload.now)) }
@@ -157,9 +157,9 @@ fn put_items<S: Reassembly + Drop, W: Write>(
         (view_store S.limits S.parts telling.old.store) shown.entry.now.now (view_datagram shown.entry.now.datagram)
         (items_of shown.entry.now.datagram.payload.now)) }
     ensures in_time { IsInTime S.parts shown.entry.now.now telling.new.store }
-    ensures err { OnErr result (Stops (W.contents writer.old) buffer.old (W.contents writer.new)
-        (lines_with (scene_by telling.old.values.types.now shown.entry.now)
-        (view_store S.limits S.parts telling.old.store) 0 (items_of shown.entry.now.datagram.payload.now))) }
+    ensures err { OnErr result (StopsOne (AreLinesWith (scene_by telling.old.values.types.now shown.entry.now)
+        (view_store S.limits S.parts telling.old.store) 0 (items_of shown.entry.now.datagram.payload.now))
+        (W.contents writer.old) buffer.old (W.contents writer.new)) }
     ensures types { telling.new.values.types.now ≡ telling.old.values.types.now }
 {
     let mut faulty = false;
@@ -183,9 +183,9 @@ fn put_recorded_item<S: Reassembly + Drop, W: Write>(
 ) -> Result<bool, PrintFault>
     requires room { place + item_len (view_item item.now) ≤ usize.MAX }
     requires in_time { IsInTime S.parts shown.now.now telling.old.store }
-    ensures ok { OnOk result (Sends (W.contents writer.old) buffer.old (W.contents writer.new) buffer.new
-        (recorded_lines (scene_by telling.old.values.types.now shown.entry.now)
-        (view_store S.limits S.parts telling.old.store) place (view_item item.now))) }
+    ensures ok { OnOk result (SendsOne (AreItemLines (scene_by telling.old.values.types.now shown.entry.now)
+        (view_store S.limits S.parts telling.old.store) place (view_item item.now))
+        (W.contents writer.old) buffer.old (W.contents writer.new) buffer.new) }
     ensures faulty { IfOk result (λ faulty. faulty ≡ records_fault
         (scene_by telling.old.values.types.now shown.entry.now) (view_store S.limits S.parts telling.old.store)
         (view_item item.now)) }
@@ -193,9 +193,9 @@ fn put_recorded_item<S: Reassembly + Drop, W: Write>(
         (view_store S.limits S.parts telling.old.store) shown.entry.now.now (view_datagram shown.entry.now.datagram)
         (view_item item.now)) }
     ensures in_time { IsInTime S.parts shown.entry.now.now telling.new.store }
-    ensures err { OnErr result (Stops (W.contents writer.old) buffer.old (W.contents writer.new)
-        (recorded_lines (scene_by telling.old.values.types.now shown.entry.now)
-        (view_store S.limits S.parts telling.old.store) place (view_item item.now))) }
+    ensures err { OnErr result (StopsOne (AreItemLines (scene_by telling.old.values.types.now shown.entry.now)
+        (view_store S.limits S.parts telling.old.store) place (view_item item.now))
+        (W.contents writer.old) buffer.old (W.contents writer.new)) }
     ensures types { telling.new.values.types.now ≡ telling.old.values.types.now }
 {
     let found = reading_of(telling.alloc, item)?;
@@ -237,12 +237,12 @@ fn put_told<W: Write>(
     values: &mut ValueLines<'_>,
 ) -> Result<bool, PrintFault>
     requires { 16 + length bytes.now ≤ usize.MAX }
-    ensures ok { OnOk result (Sends (W.contents writer.old) buffer.old (W.contents writer.new) buffer.new
-        (gathered_lines values.old.types.now k (view_told told bytes.now))) }
+    ensures ok { OnOk result (SendsOne (IsGatheredText values.old.types.now k (view_told told bytes.now))
+        (W.contents writer.old) buffer.old (W.contents writer.new) buffer.new) }
     ensures faulty { IfOk result (λ faulty. faulty
         ≡ gathers_fault values.old.types.now (view_told told bytes.now)) }
-    ensures err { OnErr result (Stops (W.contents writer.old) buffer.old (W.contents writer.new)
-        (gathered_lines values.old.types.now k (view_told told bytes.now))) }
+    ensures err { OnErr result (StopsOne (IsGatheredText values.old.types.now k (view_told told bytes.now))
+        (W.contents writer.old) buffer.old (W.contents writer.new)) }
     ensures types { values.new.types.now ≡ values.old.types.now }
 {
     match told {
@@ -273,12 +273,12 @@ fn put_whole<W: Write>(
     values: &mut ValueLines<'_>,
 ) -> Result<bool, PrintFault>
     requires { 16 + length message.payload.now ≤ usize.MAX }
-    ensures ok { OnOk result (Sends (W.contents writer.old) buffer.old (W.contents writer.new) buffer.new
-        (gathered_lines values.old.types.now k (Some (Ok (view message.entry))))) }
+    ensures ok { OnOk result (SendsOne (IsGatheredText values.old.types.now k (Some (Ok (view message.entry))))
+        (W.contents writer.old) buffer.old (W.contents writer.new) buffer.new) }
     ensures faulty { IfOk result (λ faulty. faulty
         ≡ gathers_fault values.old.types.now (Some (Ok (view message.entry)))) }
-    ensures err { OnErr result (Stops (W.contents writer.old) buffer.old (W.contents writer.new)
-        (gathered_lines values.old.types.now k (Some (Ok (view message.entry))))) }
+    ensures err { OnErr result (StopsOne (IsGatheredText values.old.types.now k (Some (Ok (view message.entry))))
+        (W.contents writer.old) buffer.old (W.contents writer.new)) }
     ensures types { values.new.types.now ≡ values.old.types.now }
 {
     let faulty = values.make(k, 0, &Ok(message))?;

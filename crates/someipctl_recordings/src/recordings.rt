@@ -2,13 +2,13 @@
 //! read.
 ghost use Rattle.std.specs.Prelude.{◌≡◌, ◌<◌, ◌+◌, ◌^◌, [], ◌∷◌, Ok, OnOk, OnErr, IfOk, option_map};
 ghost use Rattle.recording.specs.View.{view_datagram, view_record};
-ghost use Rattle.someipctl_io.specs.Sending.{Sends, Stops};
 ghost use Rattle.someipctl_recordings.specs.Gathered.{IsInTime, view_store};
 ghost use Rattle.someipctl_recordings.specs.LeftOut.{left_out_of, plus, total};
 ghost use Rattle.someipctl_recordings.specs.Asked.{AskedValue, asked_in, asked_of};
 ghost use Rattle.someipctl_recordings.specs.RecordedText.{after_all, after_datagram, empty_store};
 ghost use Rattle.someipctl_recordings.specs.Asked.{is_asked, is_at_port};
-ghost use Rattle.someipctl_recordings.specs.RecordedText.{recorded_from, recorded_text};
+ghost use Rattle.someipctl_recordings.specs.RecordedText.{AreRecorded, IsRecordedText};
+ghost use Rattle.someipctl_show.specs.TextKinds.{SendsOne, StopsOne};
 ghost use Rattle.someipctl_recordings.specs.RecordingResult.{BeginsRecording, PutsRecording};
 ghost use Rattle.someipctl_recordings.specs.RecordingResult.{ShowsRecording, nothing_shown};
 ghost use Rattle.someipctl_recordings.specs.RecordingResult.{progress_of, shown_recording, view_asked, view_limits, view_ports};
@@ -77,11 +77,11 @@ pub fn show_recording<S: Reassembly + Drop, R: Read, W: Write>(
     asked: &Asked<'_>,
     writer: &mut W,
 ) -> Result<ShownRecording, Fault<Infallible>>
-    // The text of what comes before the recording's fault was written, or of all of it, and what is told
+    // A text of what comes before the recording's fault was written, or of all of it, and what is told
     // of the recording is so.
     ensures shown { IfOk result (λ shown. ShowsRecording (R.remaining source.old) (view_asked asked.now)
         shown (W.contents writer.old) (W.contents writer.new)) }
-    // Else a beginning of that text was.
+    // Else a beginning of such a text was.
     ensures begun { OnErr result (BeginsRecording (R.remaining source.old) (view_asked asked.now)
         (W.contents writer.old) (W.contents writer.new)) }
 {
@@ -191,10 +191,10 @@ fn put_record<S: Reassembly + Drop, W: Write>(
     requires types { recorder.old.telling.values.types.now ≡ asked.now.types.now }
     requires in_time { IsInTime S.parts recorder.old.shown.now recorder.old.telling.store }
     ensures empty { OnOk result (recorder.new.lines ≡ []) }
-    ensures ok { OnOk result (Sends (W.contents writer.old) buffer.old (W.contents writer.new)
-        buffer.new (recorded_from (view_asked asked.now)
+    ensures ok { OnOk result (SendsOne (AreRecorded (view_asked asked.now)
         (progress_of recorder.old.shown (view_store S.limits S.parts recorder.old.telling.store))
-        (asked_of (view_asked asked.now) (Ok (view_record found.now) ∷ [])))) }
+        (asked_of (view_asked asked.now) (Ok (view_record found.now) ∷ [])))
+        (W.contents writer.old) buffer.old (W.contents writer.new) buffer.new) }
     ensures progress { OnOk result (progress_of recorder.new.shown (view_store S.limits S.parts recorder.new.telling.store)
         ≡ after_all (view_asked asked.now)
         (progress_of recorder.old.shown (view_store S.limits S.parts recorder.old.telling.store))
@@ -202,10 +202,10 @@ fn put_record<S: Reassembly + Drop, W: Write>(
     ensures left_out { OnOk result (recorder.new.shown.left_out
         ≡ plus recorder.old.shown.left_out (left_out_of (Ok (view_record found.now) ∷ []))) }
     ensures in_time { OnOk result (IsInTime S.parts recorder.new.shown.now recorder.new.telling.store) }
-    ensures err { OnErr result (Stops (W.contents writer.old) buffer.old (W.contents writer.new)
-        (recorded_from (view_asked asked.now)
+    ensures err { OnErr result (StopsOne (AreRecorded (view_asked asked.now)
         (progress_of recorder.old.shown (view_store S.limits S.parts recorder.old.telling.store))
-        (asked_of (view_asked asked.now) (Ok (view_record found.now) ∷ [])))) }
+        (asked_of (view_asked asked.now) (Ok (view_record found.now) ∷ [])))
+        (W.contents writer.old) buffer.old (W.contents writer.new)) }
     ensures types { recorder.new.telling.values.types.now ≡ recorder.old.telling.values.types.now }
 {
     if let Record::Other(kind) = found {
@@ -231,9 +231,9 @@ fn put_next<S: Reassembly + Drop, W: Write>(
     requires in_time { IsInTime S.parts recorder.old.shown.now recorder.old.telling.store }
     ensures empty { OnOk result (recorder.new.lines ≡ []) }
     ensures ok { (asked : AskedValue) → asked.types ≡ recorder.old.telling.values.types.now → asked.endpoints ≡ endpoints
-        → OnOk result (Sends (W.contents writer.old) buffer.old (W.contents writer.new) buffer.new
-        (recorded_text asked (progress_of recorder.old.shown (view_store S.limits S.parts recorder.old.telling.store))
-        (view_datagram datagram.entry))) }
+        → OnOk result (SendsOne (IsRecordedText asked
+        (progress_of recorder.old.shown (view_store S.limits S.parts recorder.old.telling.store))
+        (view_datagram datagram.entry)) (W.contents writer.old) buffer.old (W.contents writer.new) buffer.new) }
     ensures progress { (asked : AskedValue) → asked.types ≡ recorder.old.telling.values.types.now
         → OnOk result (progress_of recorder.new.shown (view_store S.limits S.parts recorder.new.telling.store)
         ≡ after_datagram asked (progress_of recorder.old.shown (view_store S.limits S.parts recorder.old.telling.store))
@@ -241,9 +241,9 @@ fn put_next<S: Reassembly + Drop, W: Write>(
     ensures left_out { recorder.new.shown.left_out ≡ recorder.old.shown.left_out }
     ensures in_time { OnOk result (IsInTime S.parts recorder.new.shown.now recorder.new.telling.store) }
     ensures err { (asked : AskedValue) → asked.types ≡ recorder.old.telling.values.types.now → asked.endpoints ≡ endpoints
-        → OnErr result (Stops (W.contents writer.old) buffer.old (W.contents writer.new)
-        (recorded_text asked (progress_of recorder.old.shown (view_store S.limits S.parts recorder.old.telling.store))
-        (view_datagram datagram.entry))) }
+        → OnErr result (StopsOne (IsRecordedText asked
+        (progress_of recorder.old.shown (view_store S.limits S.parts recorder.old.telling.store))
+        (view_datagram datagram.entry)) (W.contents writer.old) buffer.old (W.contents writer.new)) }
     ensures types { recorder.new.telling.values.types.now ≡ recorder.old.telling.values.types.now }
 {
     let next = Numbered {

@@ -1,6 +1,9 @@
 pub mod CaptureLemmas
 pub mod ShownTextLemmas
 pub mod ShowResultLemmas
+pub mod KindLemmas
+pub mod SomeTexts
+pub mod OneText
 pub mod PlaceLemmas
 pub mod ReadingsLemmas
 pub mod VectorLemmas

@@ -1,31 +1,59 @@
 -- Where a message begins in its datagram, and the lines that are told from there.
-use Rattle.std.proofs.Common.{◌≡◌, ℕ, ◌+◌, List, [], ◌∷◌, ◌++◌, length, drop, Option, None, Ok, sym, ap, ◌∙◌, append_assoc, length-append, zero-add, arith}
+use Rattle.std.proofs.Common.{◌≡◌, ℕ, ◌+◌, List, [], ◌∷◌, ◌++◌, length, drop, Option, None, ◌↔◌, refl, sym, subst, ap, ◌∙◌, append_assoc, length-append, zero-add, arith}
 use Rattle.std.specs.List.{flat_map}
 use Rattle.std.proofs.lemmas.Grind.{flat_map-append}
 use Rattle.std.proofs.lemmas.List.{drop_at}
 use Rattle.someip_wire.specs.declared.WireError.{WireError}
 use Rattle.someip_wire.specs.Spelling.{MessageValue, header_bytes, spelling}
 use Rattle.someip_wire.specs.Datagram.{Datagram, items}
-use Rattle.someipctl_io.specs.Items.{item_lines}
 use Rattle.someipctl_show.specs.types.Types.{TypesValue}
-use Rattle.someipctl_show.specs.types.ValueLine.{value_line}
-use Rattle.someipctl_show.specs.ShownText.{lines_from}
+use Rattle.someipctl_show.specs.ShownText.{AreLines}
+use Rattle.someipctl_show.specs.TextKinds.{Joined}
 
-lines_from-append : (types : TypesValue) (k place : ℕ) (front others : List MessageValue) (end : Option WireError)
-    → lines_from types k place (items (front ++ others) end) ≡ lines_from types k place (items front None) ++ lines_from types k (place + length (flat_map spelling front)) (items others end)
-lines_from-append types k place [] others end = let at : place ≡ place + 0 = omega arith in ap (λ p. lines_from types k p (items others end)) at
-lines_from-append types k place (m ∷ front) others end =
-    let head = item_lines k place (value_line types k place m) (Ok m) in
+-- the place of what comes behind a message and others
+behind : (place : ℕ) (m : MessageValue) (front : List MessageValue)
+    → (place + length (spelling m)) + length (flat_map spelling front) ≡ place + length (spelling m ++ flat_map spelling front)
+behind place m front = omega (arith, length-append (spelling m) (flat_map spelling front))
+
+lines_split : (types : TypesValue) (k place : ℕ) (front others : List MessageValue) (end : Option WireError) (text : List ℕ) → AreLines types k place (items (front ++ others) end) text
+    → Joined (AreLines types k place (items front None)) (AreLines types k (place + length (flat_map spelling front)) (items others end)) text
+lines_split types k place [] others end text are =
+    let at : place ≡ place + 0 = omega arith in
+    ([], text, refl, refl, subst (λ p. AreLines types k p (items others end) text) at are)
+lines_split types k place (m ∷ front) others end text are =
     let next = place + length (spelling m) in
-    let at : next + length (flat_map spelling front) ≡ place + length (spelling m ++ flat_map spelling front) = omega (arith, length-append (spelling m) (flat_map spelling front)) in
-    ap (λ (t : List ℕ). head ++ t) (lines_from-append types k next front others end)
-    ∙ sym (append_assoc head (lines_from types k next (items front None)) (lines_from types k (next + length (flat_map spelling front)) (items others end)))
-    ∙ ap (λ p. (head ++ lines_from types k next (items front None)) ++ lines_from types k p (items others end)) at
+    let rest = lines_split types k next front others end are.1 are.4 in (
+      are.0 ++ rest.0,
+      rest.1,
+      are.2 ∙ ap (λ (t : List ℕ). are.0 ++ t) rest.2 ∙ sym (append_assoc are.0 rest.0 rest.1),
+      (are.0, rest.0, refl, are.3, rest.3),
+      subst (λ p. AreLines types k p (items others end) rest.1) (behind place m front) rest.4,
+    )
 
-pub lines_from-front : (k : ℕ) (front others : List MessageValue) (end : Option WireError) (types : TypesValue)
-    → lines_from types k 0 (items (front ++ others) end) ≡ lines_from types k 0 (items front None) ++ lines_from types k (length (flat_map spelling front)) (items others end)
-lines_from-front k front others end types =
-    lines_from-append types k 0 front others end ∙ ap (λ n. lines_from types k 0 (items front None) ++ lines_from types k n (items others end)) (zero-add (length (flat_map spelling front)))
+lines_join : (types : TypesValue) (k place : ℕ) (front others : List MessageValue) (end : Option WireError) (text : List ℕ)
+    → Joined (AreLines types k place (items front None)) (AreLines types k (place + length (flat_map spelling front)) (items others end)) text
+    → AreLines types k place (items (front ++ others) end) text
+lines_join types k place [] others end text both =
+    let at : place + 0 ≡ place = omega arith in
+    subst (AreLines types k place (items others end)) (sym (both.2 ∙ ap (λ (t : List ℕ). t ++ both.1) both.3)) (subst (λ p. AreLines types k p (items others end) both.1) at both.4)
+lines_join types k place (m ∷ front) others end text both =
+    let next = place + length (spelling m) in
+    let head = both.3 in
+    let more = subst (λ p. AreLines types k p (items others end) both.1) (sym (behind place m front)) both.4 in (
+      head.0,
+      head.1 ++ both.1,
+      both.2 ∙ ap (λ (t : List ℕ). t ++ both.1) head.2 ∙ append_assoc head.0 head.1 both.1,
+      head.3,
+      lines_join types k next front others end (head.1 ++ both.1) (head.1, both.1, refl, head.4, more),
+    )
+
+pub lines_behind : (k : ℕ) (front others : List MessageValue) (end : Option WireError) (types : TypesValue) (text : List ℕ)
+    → (AreLines types k 0 (items (front ++ others) end) text
+    ↔ Joined (AreLines types k 0 (items front None)) (AreLines types k (length (flat_map spelling front)) (items others end)) text)
+lines_behind k front others end types text =
+    let at = zero-add (length (flat_map spelling front)) in
+    let Both : ℕ → Type 0 = λ n. Joined (AreLines types k 0 (items front None)) (AreLines types k n (items others end)) text in
+    (λ are. subst Both at (lines_split types k 0 front others end text are), λ both. lines_join types k 0 front others end text (subst Both (sym at) both))
 
 -- the bytes of messages, one of which is cut after its header
 bytes_at : (front : List MessageValue) (m : MessageValue) (others : List MessageValue) (rest : List ℕ)

@@ -1,5 +1,5 @@
 -- The text of a datagram, and whether it ends in a fault.
-use Rattle.std.proofs.Common.{◌≡◌, ℕ, zero, suc, ◌+◌, ◌<◌, ◌≤◌, Bool, true, false, ◌||◌, List, [], ◌∷◌, length, get_or, drop, map, Option, Some, None, Vec, Global, Result, refl, sym, ap, ◌∙◌, length-append, arith}
+use Rattle.std.proofs.Common.{◌≡◌, ℕ, zero, suc, ◌+◌, ◌<◌, ◌≤◌, Bool, true, false, ◌||◌, List, [], ◌∷◌, length, get_or, drop, map, Option, Some, None, Vec, Global, Result, Ok, Err, refl, sym, subst, ap, ◌∙◌, length-append, arith}
 use Rattle.std.specs.List.{flat_map, list_any}
 use Rattle.std.proofs.lemmas.List.{nil_from_length}
 use Rattle.someip_wire.specs.declared.WireError.{WireError}
@@ -10,14 +10,24 @@ use Rattle.someip_wire.proofs.DatagramLemmas.{items_from-nil}
 use Rattle.someipctl_io.specs.Lines.{empty_line}
 use Rattle.someipctl_io.specs.Items.{item_len}
 use Rattle.someipctl_show.specs.types.Types.{TypesValue}
-use Rattle.someipctl_show.specs.ShownText.{datagram_text, has_fault, lines_from, shows_fault}
+use Rattle.someipctl_show.specs.ShownText.{AreLines, AreTexts, IsDatagramText, IsItemText, IsValueOfItem, has_fault, shows_fault}
+use Rattle.someipctl_show.specs.TextKinds.{Joined}
+use Rattle.someipctl_show.proofs.KindLemmas.{IsSendingOne}
 
-pub datagram_text-empty : (types : TypesValue) (k : ℕ) (datagram : List ℕ) → length datagram ≡ 0 → datagram_text types k datagram ≡ empty_line k
-datagram_text-empty types k datagram none = ap (datagram_text types k) (nil_from_length datagram none)
+pub empty_text : (types : TypesValue) (k : ℕ) (datagram : List ℕ) → length datagram ≡ 0 → IsDatagramText types k datagram (empty_line k)
+empty_text types k datagram none = subst (λ d. IsDatagramText types k d (empty_line k)) (sym (nil_from_length datagram none)) refl
 
-pub datagram_text-some : (types : TypesValue) (k : ℕ) (datagram : List ℕ) → 0 < length datagram → datagram_text types k datagram ≡ lines_from types k 0 (items_of datagram)
-datagram_text-some types k [] lt = absurd (omega (arith, lt))
-datagram_text-some types k (b ∷ bytes) lt = refl
+pub lines_text : (types : TypesValue) (k : ℕ) (datagram : List ℕ) → 0 < length datagram → (text : List ℕ) → AreLines types k 0 (items_of datagram) text → IsDatagramText types k datagram text
+lines_text types k [] lt text are = absurd (omega (arith, lt))
+lines_text types k (b ∷ bytes) lt text are = are
+
+-- where no types name messages, no item has a value
+pub no_value : (types : TypesValue) (k place : ℕ) (item : Result MessageValue WireError) → types ≡ [] → IsValueOfItem types k place item []
+no_value types k place item none = subst (λ t. IsValueOfItem t k place item []) (sym none) (of item)
+  where
+    of : (item : Result MessageValue WireError) → IsValueOfItem [] k place item []
+    of (Ok m) = refl
+    of (Err fault) = refl
 
 pub has_fault-empty : (types : TypesValue) (datagram : List ℕ) → length datagram ≡ 0 → has_fault types datagram ≡ false
 has_fault-empty types datagram none = ap (has_fault types) (nil_from_length datagram none) ∙ ap (list_any (shows_fault types)) (items_from-nil 0)
@@ -54,6 +64,13 @@ next_datagram [] i d bytes lt is = absurd (omega (arith, lt))
 next_datagram (x ∷ xs) zero d bytes lt is = ap (λ (t : List ℕ). t ∷ bytes_of_each xs) is
 next_datagram (x ∷ xs) (suc i) d bytes lt is = let k : suc i + 1 ≡ suc (i + 1) = omega arith in rw k (next_datagram xs i d bytes (omega (arith, lt)) is)
 
+-- there is none at a place behind them
+pub no_datagram : (datagrams : List (Vec ℕ Global)) (i : ℕ) → length datagrams ≤ i → drop i (bytes_of_each datagrams) ≡ []
+no_datagram [] zero le = refl
+no_datagram [] (suc i) le = refl
+no_datagram (x ∷ xs) zero le = absurd (omega (arith, le))
+no_datagram (x ∷ xs) (suc i) le = no_datagram xs i (omega (arith, le))
+
 -- one more, of a list of which one may hold
 or_assoc : (a b c : Bool) → ((a || b) || c) ≡ (a || (b || c))
 or_assoc true b c = refl
@@ -69,3 +86,15 @@ or_false false = refl
 
 pub any_end : {X : Type 0} (p : X → Bool) (so_far : Bool) (left : List X) (all : Bool) → left ≡ [] → (so_far || list_any p left) ≡ all → so_far ≡ all
 any_end p so_far left all none h = sym (or_false so_far) ∙ ap (λ l. so_far || list_any p l) (sym none) ∙ h
+
+-- what is still to send, where the next item is known
+pub next_item : (types : TypesValue) (k place : ℕ) (a b : Option (List ℕ)) (held waits : List ℕ) (All : List ℕ → Type 0) (old : List (Result MessageValue WireError)) (item : Result MessageValue WireError) (new : List (Result MessageValue WireError))
+    → old ≡ item ∷ new → IsSendingOne a held b waits (AreLines types k place old) All
+    → IsSendingOne a held b waits (Joined (IsItemText types k place item) (AreLines types k (place + item_len item) new)) All
+next_item types k place a b held waits All old item new is s = subst (λ i. IsSendingOne a held b waits (AreLines types k place i) All) is s
+
+-- the same of datagrams
+pub next_shown : (types : TypesValue) (k : ℕ) (a b : Option (List ℕ)) (held waits : List ℕ) (All : List ℕ → Type 0) (old : List (List ℕ)) (datagram : List ℕ) (new : List (List ℕ))
+    → old ≡ datagram ∷ new → IsSendingOne a held b waits (AreTexts types k old) All
+    → IsSendingOne a held b waits (Joined (IsDatagramText types k datagram) (AreTexts types (k + 1) new)) All
+next_shown types k a b held waits All old datagram new is s = subst (λ i. IsSendingOne a held b waits (AreTexts types k i) All) is s

@@ -2,6 +2,7 @@ pub mod Capture
 pub mod Words
 pub mod Services
 pub mod Readings
+pub mod TextKinds
 pub mod ShownText
 pub mod ShowResult
 pub mod Payload

@@ -11,7 +11,6 @@ use Rattle.someip_payload_values.specs.Check.{checked, depth}
 use Rattle.someip_payload_values.specs.Names.{fault_name, fault_place}
 use Rattle.someip_payload_codec.specs.Faults.{FaultIn, whole}
 use Rattle.someip_payload.specs.ShapeText.{IsTextOf}
-use Rattle.someip_payload_values.specs.ValueText.{data_text}
 use Rattle.someipctl_io.specs.declared.fault.Fault.{Fault}
 use Rattle.someipctl_io.specs.declared.fault.Fault.TheVariants.{Refused, CannotRead, CannotWrite, OutOfMemory}
 use Rattle.someipctl_io.specs.declared.outcome.Outcome.{Outcome}
@@ -23,6 +22,7 @@ use Rattle.someip_payload.specs.declared.ShapeTextError.TheVariants as shapes
 use Rattle.someipctl_show.specs.declared.payload.PayloadRefusal.{PayloadRefusal}
 use Rattle.someipctl_show.specs.declared.payload.PayloadRefusal.TheVariants.{BadShape, BadHex}
 use Rattle.someipctl_show.specs.Capture.{is_dash}
+use Rattle.someipctl_show.specs.TextKinds.{SaysValue}
 
 -- the bytes that an argument says: none for `-`, else those of its hex digits, of which there is one at least
 abbrev pub argument_bytes : List ℕ → Option (List ℕ)
@@ -33,9 +33,9 @@ abbrev pub refusal_of_shape : ShapeTextError → Fault PayloadRefusal
 refusal_of_shape (shapes.BadShape place) = Refused (BadShape place)
 refusal_of_shape shapes.OutOfMemory = OutOfMemory
 
--- what is printed of a value of a shape that took n of so many bytes
-abbrev pub value_lines : Form → Value → ℕ → ℕ → List ℕ
-value_lines shape value n all = codes "value " ++ data_text shape (data_of value) ++ codes "\n" ++ (codes "used " ++ decimal n ++ codes " of " ++ decimal all ++ codes "\n")
+-- what is printed of a value, told in this text, that took n of so many bytes
+abbrev pub value_lines : List ℕ → ℕ → ℕ → List ℕ
+value_lines told n all = codes "value " ++ told ++ codes "\n" ++ (codes "used " ++ decimal n ++ codes " of " ++ decimal all ++ codes "\n")
 
 -- what is printed of a fault: its name and its place
 abbrev pub fault_text : PayloadError → List ℕ
@@ -51,7 +51,7 @@ ReadsFront shape bytes value n = (checked shape ≡ Ok tt) × (n ≤ length byte
 
 -- what was found of the bytes by the shape and is printed: the value of a front of them, or their fault
 abbrev pub IsTold : Form → List ℕ → List ℕ → Outcome → Type 0
-IsTold shape bytes text Done = (value : Value) × (n : ℕ) × ReadsFront shape bytes value n × (text ≡ value_lines shape value n (length bytes))
+IsTold shape bytes text Done = (value : Value) × (n : ℕ) × ReadsFront shape bytes value n × (told : List ℕ) × SaysValue shape (data_of value) told × (text ≡ value_lines told n (length bytes))
 IsTold shape bytes text FaultShown = (fault : PayloadError) × (fault ≢ faults.OutOfMemory) × IsFaultOf shape bytes fault × (text ≡ fault_text fault)
 
 -- what the two arguments say, and what is printed of it

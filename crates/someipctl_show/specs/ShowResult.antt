@@ -11,7 +11,7 @@ use Rattle.someipctl_show.specs.Services.{asked_among}
 use Rattle.someipctl_show.specs.types.Types.{TypesValue}
 use Rattle.someipctl_show.specs.Capture.{captured_datagrams, first_bad}
 use Rattle.someipctl_io.specs.Inputs.{WasLeft}
-use Rattle.someipctl_show.specs.ShownText.{shown_text, shown_outcome}
+use Rattle.someipctl_show.specs.ShownText.{IsShownText, shown_outcome}
 
 -- the capture says these datagrams, in order: none of its lines is bad
 abbrev pub SaysDatagrams : List ℕ → List (List ℕ) → Type 0
@@ -21,17 +21,19 @@ SaysDatagrams capture datagrams = map (λ datagram. Some datagram) datagrams ≡
 abbrev pub view_services : Option (Bor (List AskedService)) → Option (List AskedService)
 view_services services = option_map (λ s. s.now) services
 
--- the text of the datagrams of the capture that are asked for was written whole, and the outcome says whether a fault is
--- in it
+-- a text of the datagrams of the capture that are asked for was written whole, and the outcome says whether a fault is in
+-- it
 pub record Shows (input : Option (List ℕ)) (services : Option (List AskedService)) (types : TypesValue) (outcome : Outcome) (before after : Option (List ℕ)) : Type 0 where
   pub capture : List ℕ
   pub left : WasLeft input capture
   pub datagrams : List (List ℕ)
   pub says : SaysDatagrams capture datagrams
-  pub wrote : Appends before after (shown_text types (asked_among services datagrams))
+  pub text : List ℕ
+  pub shows : IsShownText types (asked_among services datagrams) text
+  pub wrote : Appends before after text
   pub tells : outcome ≡ shown_outcome types (asked_among services datagrams)
 
--- a beginning of that text was written
+-- a beginning of such a text was written
 pub record ShowsBeginning (input : Option (List ℕ)) (services : Option (List AskedService)) (types : TypesValue) (before after : Option (List ℕ)) : Type 0 where
   pub capture : List ℕ
   pub left : WasLeft input capture
@@ -40,7 +42,7 @@ pub record ShowsBeginning (input : Option (List ℕ)) (services : Option (List A
   pub sent : List ℕ
   pub unsent : List ℕ
   pub wrote : Appends before after sent
-  pub beginning : sent ++ unsent ≡ shown_text types (asked_among services datagrams)
+  pub shows : IsShownText types (asked_among services datagrams) (sent ++ unsent)
 
 -- the line of this number is the first bad one of the capture
 abbrev pub IsFirstBad : Option (List ℕ) → ℕ → Type 0

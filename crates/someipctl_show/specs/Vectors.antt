@@ -11,7 +11,7 @@ use Rattle.someip_texts.specs.Lines.{lines_of}
 use Rattle.someipctl_io.specs.Lines.{joined}
 use Rattle.someipctl_io.specs.Outcomes.{fault_outcome}
 use Rattle.someipctl_show.specs.Payload.{IsTold}
-use Rattle.someipctl_show.specs.ShownText.{datagram_text, no_types}
+use Rattle.someipctl_show.specs.ShownText.{IsDatagramText, no_types}
 use Rattle.someipctl_io.specs.Inputs.{WasLeft}
 use Rattle.someipctl_show.specs.VectorLines.{Asked, of_datagram, of_payload, Said, asks, expects, AreSaid, IsFirstBadLine}
 
@@ -39,7 +39,7 @@ vectors_in (asks asked ∷ sayings) = record { asked = asked; expected = expecte
 -- the text is what is printed of what a vector asks for: of a datagram that of `show`, where it is the first one,
 -- and of a payload that of `payload`
 abbrev pub IsPrintedOf : Asked → List ℕ → Type 0
-IsPrintedOf (of_datagram bytes) text = text ≡ datagram_text no_types 1 bytes
+IsPrintedOf (of_datagram bytes) text = IsDatagramText no_types 1 bytes text
 IsPrintedOf (of_payload shape bytes) text = (outcome : Outcome) × IsTold shape bytes text outcome
 
 -- a vector passes exactly where that text is the one that it expects

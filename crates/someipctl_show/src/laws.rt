@@ -1,6 +1,6 @@
 //! Laws of the definitions behind the contracts: what the lines of captures and of files of vectors
 //! say, and where a message begins in its datagram. Each is the contract of a function that does nothing.
-ghost use Rattle.std.specs.Prelude.{◌≡◌, ◌+◌, ◌++◌, [], ◌∷◌, codes, true, Option, None};
+ghost use Rattle.std.specs.Prelude.{◌≡◌, ◌↔◌, ◌+◌, ◌++◌, [], ◌∷◌, codes, true, Option, None};
 ghost use Rattle.std.specs.Prelude.{ℕ, List, drop, length};
 ghost use Rattle.std.specs.List.{flat_map};
 ghost use Rattle.hex.specs.Hex.{encode_lower, IsBytes};
@@ -10,7 +10,8 @@ ghost use Rattle.someip_wire.specs.Datagram.{Datagram, items};
 ghost use Rattle.someip_payload_values.specs.Data.{bool};
 ghost use Rattle.someip_texts.specs.Lines.{is_left_out};
 ghost use Rattle.someipctl_show.specs.types.Types.{TypesValue};
-ghost use Rattle.someipctl_show.specs.ShownText.{lines_from};
+ghost use Rattle.someipctl_show.specs.ShownText.{AreLines, AreTexts};
+ghost use Rattle.someipctl_show.specs.TextKinds.{Joined};
 ghost use Rattle.someipctl_show.specs.VectorLines.{IsBadBehind, Said, Says, asks, expects};
 ghost use Rattle.someipctl_show.specs.VectorLines.{of_datagram, of_payload};
 ghost use Rattle.someipctl_show.specs.Payload.{argument_bytes};
@@ -47,14 +48,20 @@ pub fn what_vector_lines_say()
 /// Where a message begins in its datagram: after the bytes of the messages in front of it. That is
 /// the place from which its lines are told, and its payload stands 16 bytes further.
 pub fn messages_begin_behind_others()
-    // The lines of messages are those of the ones in front, and then of the others from there on.
+    // Lines of messages are those of the ones in front, and then of the others from there on.
     ensures lines { (k : ℕ) (front others : List MessageValue) (end : Option WireError)
-        (types : TypesValue)
-        → lines_from types k 0 (items (front ++ others) end) ≡ lines_from types k 0 (items front None)
-        ++ lines_from types k (length (flat_map spelling front)) (items others end) }
+        (types : TypesValue) (text : List ℕ) → (AreLines types k 0 (items (front ++ others) end) text
+        ↔ Joined (AreLines types k 0 (items front None))
+        (AreLines types k (length (flat_map spelling front)) (items others end)) text) }
     // 16 bytes after the ones in front, its payload stands in the datagram.
     ensures payload { (front others : List MessageValue) (message : MessageValue)
         (end : Option WireError) (bytes : List ℕ) → Datagram (front ++ message ∷ others) end bytes
         → (rest : List ℕ)
         × (drop (length (flat_map spelling front) + 16) bytes ≡ message.payload ++ rest) }
+{}
+
+/// What is printed of datagrams by types files is one text: what says a value here says it in one way.
+pub fn datagrams_have_one_text()
+    ensures { (types : TypesValue) (k : ℕ) (datagrams : List (List ℕ)) (a b : List ℕ)
+        → AreTexts types k datagrams a → AreTexts types k datagrams b → a ≡ b }
 {}

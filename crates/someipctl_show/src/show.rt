@@ -3,15 +3,15 @@
 //! What `show` promises, it promises of a capture that there is, which is what the reader had left where
 //! that is known. So the text, the outcome and the number of a bad line fit one another for every reader, a
 //! file too.
-ghost use Rattle.std.specs.Prelude.{◌≡◌, ◌≢◌, ◌++◌, [], Some, OnOk, OnErr, IfOk, IfErr, map};
+ghost use Rattle.std.specs.Prelude.{ℕ, List, ◌≡◌, ◌≢◌, ◌++◌, [], Some, OnOk, OnErr, IfOk, IfErr, map};
 ghost use Rattle.std.specs.Io.KnownBytes.{Appends};
 ghost use Rattle.someip_wire.specs.Reading.{items_of};
-ghost use Rattle.someipctl_io.specs.Sending.{Sends, Stops};
+ghost use Rattle.someipctl_show.specs.TextKinds.{SendsOne, StopsOne};
 ghost use Rattle.someipctl_io.specs.Discovery.{view_reading};
 ghost use Rattle.someipctl_show.specs.Readings.{BeginWith, readings_in, readings_of};
 ghost use Rattle.someipctl_show.specs.Services.{asked_among};
-ghost use Rattle.someipctl_show.specs.ShownText.{ComesWith, datagram_text, lines_from, no_types};
-ghost use Rattle.someipctl_show.specs.ShownText.{shown_text, shown_outcome, has_fault};
+ghost use Rattle.someipctl_show.specs.ShownText.{AreLines, ComesWith, IsDatagramText, no_types};
+ghost use Rattle.someipctl_show.specs.ShownText.{IsShownText, shown_outcome, has_fault};
 ghost use Rattle.someipctl_show.specs.ShowResult.{Shows, RefusesShow, view_services};
 
 use crate::capture::{BadCaptureLine, read_capture};
@@ -36,12 +36,12 @@ pub fn show<R: Read, W: Write>(
     types: &MessageTypes,
     writer: &mut W,
 ) -> Result<Outcome, Fault<BadCaptureLine>>
-    // The text of all datagrams that are asked for was written, and the outcome says whether a fault is
-    // in it.
+    // A text of all datagrams that are asked for was written, and the outcome says whether a fault is in
+    // it.
     ensures shown { IfOk result (λ outcome. Shows (R.remaining reader.old) (view_services services.entry)
         types.now outcome (W.contents writer.old) (W.contents writer.new)) }
     // An error names the first bad line, and leaves nothing written, but for one of writing, or of memory
-    // for a value: that leaves a beginning of the text.
+    // for a value: that leaves a beginning of such a text.
     ensures refused { IfErr result (λ error. RefusesShow (R.remaining reader.old)
         (view_services services.entry) types.now error (W.contents writer.old) (W.contents writer.new)) }
 {
@@ -91,12 +91,13 @@ fn write_datagrams<W: Write>(
 ) -> Result<Outcome, PrintFault>
     requires empty { buffer.old ≡ [] }
     requires read { map view_reading readings.now ≡ readings_of (map (λ d. d.items) datagrams.now) }
-    ensures ok { OnOk result (Appends (W.contents writer.old)
-        (W.contents writer.new) (shown_text values.old.types.now (map (λ d. d.items) datagrams.now))) }
+    ensures ok { OnOk result ((text : List ℕ)
+        × IsShownText values.old.types.now (map (λ d. d.items) datagrams.now) text
+        × Appends (W.contents writer.old) (W.contents writer.new) text) }
     ensures outcome { IfOk result (λ outcome.
         outcome ≡ shown_outcome values.old.types.now (map (λ d. d.items) datagrams.now)) }
-    ensures err { OnErr result (Stops (W.contents writer.old) []
-        (W.contents writer.new) (shown_text values.old.types.now (map (λ d. d.items) datagrams.now))) }
+    ensures err { OnErr result (StopsOne (IsShownText values.old.types.now (map (λ d. d.items) datagrams.now))
+        (W.contents writer.old) [] (W.contents writer.new)) }
     ensures memory { IfErr result (ComesWith values.old.types.now) }
     ensures types { values.new.types.now ≡ values.old.types.now }
 {
@@ -114,12 +115,12 @@ fn put_datagrams<W: Write>(
     values: &mut ValueLines<'_>,
 ) -> Result<Outcome, PrintFault>
     requires { map view_reading readings.now ≡ readings_of (map (λ d. d.items) datagrams.now) }
-    ensures ok { OnOk result (Sends (W.contents writer.old) buffer.old
-        (W.contents writer.new) buffer.new (shown_text values.old.types.now (map (λ d. d.items) datagrams.now))) }
+    ensures ok { OnOk result (SendsOne (IsShownText values.old.types.now (map (λ d. d.items) datagrams.now))
+        (W.contents writer.old) buffer.old (W.contents writer.new) buffer.new) }
     ensures outcome { IfOk result (λ outcome.
         outcome ≡ shown_outcome values.old.types.now (map (λ d. d.items) datagrams.now)) }
-    ensures err { OnErr result (Stops (W.contents writer.old) buffer.old
-        (W.contents writer.new) (shown_text values.old.types.now (map (λ d. d.items) datagrams.now))) }
+    ensures err { OnErr result (StopsOne (IsShownText values.old.types.now (map (λ d. d.items) datagrams.now))
+        (W.contents writer.old) buffer.old (W.contents writer.new)) }
     ensures memory { IfErr result (ComesWith values.old.types.now) }
     ensures types { values.new.types.now ≡ values.old.types.now }
 {
@@ -142,13 +143,13 @@ pub(crate) fn put_datagram<W: Write>(
     values: &mut ValueLines<'_>,
 ) -> Result<bool, PrintFault>
     requires { BeginWith (map view_reading left.old.now) (readings_in (items_of datagram.now)) }
-    ensures ok { OnOk result (Sends (W.contents writer.old) buffer.old
-        (W.contents writer.new) buffer.new (datagram_text values.old.types.now k datagram.now)) }
+    ensures ok { OnOk result (SendsOne (IsDatagramText values.old.types.now k datagram.now)
+        (W.contents writer.old) buffer.old (W.contents writer.new) buffer.new) }
     ensures faulty { IfOk result (λ faulty. faulty ≡ has_fault values.old.types.now datagram.now) }
     ensures left { OnOk result (map view_reading left.old.now
         ≡ readings_in (items_of datagram.now) ++ map view_reading left.new.now) }
-    ensures err { OnErr result (Stops (W.contents writer.old) buffer.old
-        (W.contents writer.new) (datagram_text values.old.types.now k datagram.now)) }
+    ensures err { OnErr result (StopsOne (IsDatagramText values.old.types.now k datagram.now)
+        (W.contents writer.old) buffer.old (W.contents writer.new)) }
     ensures memory { IfErr result (ComesWith values.old.types.now) }
     ensures types { values.new.types.now ≡ values.old.types.now }
 {
@@ -161,7 +162,7 @@ pub(crate) fn put_datagram<W: Write>(
 
 /// The text of a datagram as the first of a capture.
 pub fn text_of_datagram(alloc: Global, datagram: &[u8]) -> Result<Vec<u8>, AllocError>
-    ensures { IfOk result (λ text. text.items ≡ datagram_text no_types 1 datagram.now) }
+    ensures { IfOk result (λ text. IsDatagramText no_types 1 datagram.now text.items) }
 {
     let mut text = Vec::new(alloc);
     let mut readings = Vec::new(alloc);
@@ -187,13 +188,13 @@ fn put_items<W: Write>(
     values: &mut ValueLines<'_>,
 ) -> Result<bool, PrintFault>
     requires { BeginWith (map view_reading left.old.now) (readings_in (items_of datagram.now)) }
-    ensures ok { OnOk result (Sends (W.contents writer.old) buffer.old
-        (W.contents writer.new) buffer.new (lines_from values.old.types.now k 0 (items_of datagram.now))) }
+    ensures ok { OnOk result (SendsOne (AreLines values.old.types.now k 0 (items_of datagram.now))
+        (W.contents writer.old) buffer.old (W.contents writer.new) buffer.new) }
     ensures faulty { IfOk result (λ faulty. faulty ≡ has_fault values.old.types.now datagram.now) }
     ensures left { OnOk result (map view_reading left.old.now
         ≡ readings_in (items_of datagram.now) ++ map view_reading left.new.now) }
-    ensures err { OnErr result (Stops (W.contents writer.old) buffer.old
-        (W.contents writer.new) (lines_from values.old.types.now k 0 (items_of datagram.now))) }
+    ensures err { OnErr result (StopsOne (AreLines values.old.types.now k 0 (items_of datagram.now))
+        (W.contents writer.old) buffer.old (W.contents writer.new)) }
     ensures memory { IfErr result (ComesWith values.old.types.now) }
     ensures types { values.new.types.now ≡ values.old.types.now }
 {

@@ -1,10 +1,10 @@
 //! The lines of the values of messages.
 ghost use Rattle.std.specs.Prelude.{◌≡◌, ◌+◌, ◌≤◌, [], IfErr, IfOk, IsOk, OnErr, OnOk, string_bytes};
 ghost use Rattle.someip_wire.specs.View.{view_item};
-ghost use Rattle.someipctl_io.specs.Sending.{Sends, Stops};
 ghost use Rattle.someipctl_io.specs.Discovery.{discovery_in, view_found};
-ghost use Rattle.someipctl_io.specs.Items.{item_len, item_lines};
-ghost use Rattle.someipctl_show.specs.ShownText.{ComesWith, has_value_fault_in, shows_fault, value_of_item};
+ghost use Rattle.someipctl_io.specs.Items.{item_len};
+ghost use Rattle.someipctl_show.specs.ShownText.{ComesWith, IsItemText, IsValueOfItem, has_value_fault_in, shows_fault};
+ghost use Rattle.someipctl_show.specs.TextKinds.{SendsOne, StopsOne};
 
 use crate::types::MessageTypes;
 use someip_wire::{Message, WireError};
@@ -34,7 +34,7 @@ impl<'t> ValueLines<'t> {
         }
     }
 
-    /// Makes the line of the value of an item, which begins at a place of the k-th datagram: an empty
+    /// Makes a line of the value of an item, which begins at a place of the k-th datagram: an empty
     /// one where it has none. Says whether it tells a fault.
     pub fn make(
         &mut self,
@@ -43,8 +43,8 @@ impl<'t> ValueLines<'t> {
         item: &Result<Message<'_>, WireError>,
     ) -> Result<bool, AllocError>
         requires { place + item_len (view_item item.now) ≤ usize.MAX }
-        ensures line { OnOk result (string_bytes self.new.line
-            ≡ value_of_item self.old.types.now k place (view_item item.now)) }
+        ensures line { OnOk result (IsValueOfItem self.old.types.now k place (view_item item.now)
+            (string_bytes self.new.line)) }
         ensures faulty { IfOk result (λ faulty.
             faulty ≡ has_value_fault_in self.old.types.now (view_item item.now)) }
         // Without types there is no line, which takes no memory.
@@ -75,14 +75,12 @@ pub fn put_valued_item<W: Write>(
 ) -> Result<bool, PrintFault>
     requires found { view_found shown.now.found ≡ discovery_in (view_item shown.now.item.now) }
     requires room { shown.now.place + item_len (view_item shown.now.item.now) ≤ usize.MAX }
-    ensures ok { OnOk result (Sends (W.contents writer.old) buffer.old (W.contents writer.new) buffer.new
-        (item_lines shown.now.k shown.now.place (value_of_item values.old.types.now shown.now.k
-        shown.now.place (view_item shown.now.item.now)) (view_item shown.now.item.now))) }
+    ensures ok { OnOk result (SendsOne (IsItemText values.old.types.now shown.now.k shown.now.place
+        (view_item shown.now.item.now)) (W.contents writer.old) buffer.old (W.contents writer.new) buffer.new) }
     ensures faulty { IfOk result (λ faulty.
         faulty ≡ shows_fault values.old.types.now (view_item shown.now.item.now)) }
-    ensures err { OnErr result (Stops (W.contents writer.old) buffer.old (W.contents writer.new)
-        (item_lines shown.now.k shown.now.place (value_of_item values.old.types.now shown.now.k
-        shown.now.place (view_item shown.now.item.now)) (view_item shown.now.item.now))) }
+    ensures err { OnErr result (StopsOne (IsItemText values.old.types.now shown.now.k shown.now.place
+        (view_item shown.now.item.now)) (W.contents writer.old) buffer.old (W.contents writer.new)) }
     ensures memory { IfErr result (ComesWith values.old.types.now) }
     ensures types { values.new.types.now ≡ values.old.types.now }
 {

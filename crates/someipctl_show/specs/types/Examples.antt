@@ -1,11 +1,12 @@
 -- Types, messages and trees, for laws by example.
-use Rattle.std.specs.Prelude.{pos, ℕ, codes, List, [], ◌∷◌, ◌++◌, Option, Some, None}
+use Rattle.std.specs.Prelude.{◌≡◌, ◌↔◌, pos, ℕ, codes, List, [], ◌∷◌, ◌++◌, Option, Some, None}
 use Rattle.toml.specs.Data.{string, integer, Data, array, table, no_items, item, no_members, member}
 use Rattle.someip_wire.specs.declared.header.MessageType.{MessageType}
 use Rattle.someip_wire.specs.declared.header.MessageType.TheVariants.{Notification}
 use Rattle.someip_wire.specs.Spelling.{MessageValue}
 use Rattle.someip_payload_values.specs.Data.{«struct», named, enumerated, u8, u16, no_forms, form_then}
 use Rattle.someipctl_show.specs.types.Types.{TypedMessageValue, TypesValue}
+use Rattle.someipctl_show.specs.types.ValueLine.{IsValueLine}
 
 -- messages of a type with the Message ID 1234 8001, whose payload is a number of 16 bits and one of 8
 abbrev pub speed_of : MessageType → Option (List ℕ) → TypedMessageValue
@@ -65,3 +66,7 @@ abbrev pub speed_text : List ℕ → List ℕ
 speed_text more =
     line (codes "[[message]]") ++ line (codes "service = 0x1234") ++ line (codes "method = 0x8001") ++ line (codes "type = \"NOTIFICATION\"")
     ++ line (codes "shape = \"struct(u16,u8)\"") ++ line (codes "name = \"speed\"") ++ more
+
+-- the message has this line of its value, and no other
+abbrev pub IsOnlyLine : TypesValue → ℕ → ℕ → MessageValue → List ℕ → Type 0
+IsOnlyLine types k place m text = (line : List ℕ) → (IsValueLine types k place m line ↔ (line ≡ text))

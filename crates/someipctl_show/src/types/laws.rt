@@ -3,40 +3,33 @@
 ghost use Rattle.std.specs.Prelude.{◌≡◌, true, false, codes, [], ◌∷◌, Some, None};
 ghost use Rattle.toml.specs.Data.{Data};
 ghost use Rattle.someip_wire.specs.declared.header.MessageType.TheVariants.{Notification, Request, TpNotification};
-ghost use Rattle.someipctl_show.specs.types.Examples.{speed_of, speed_types, named_types, message_with, event_with, keyed, file_with, speed_text, line};
+ghost use Rattle.someipctl_show.specs.types.Examples.{IsOnlyLine, speed_of, speed_types, named_types, message_with, event_with, keyed, file_with, speed_text, line};
 ghost use Rattle.someipctl_show.specs.types.GoodTypes.{has_clash, is_label};
 ghost use Rattle.someipctl_show.specs.types.Keys.{kind_of_word};
 ghost use Rattle.someipctl_show.specs.types.Says.{TextSays, tree_of};
 ghost use Rattle.someipctl_show.specs.types.Tables.{has_unknown_key};
 ghost use Rattle.someipctl_show.specs.types.Types.{TypesValue};
-ghost use Rattle.someipctl_show.specs.types.ValueLine.{value_line, has_value_fault};
+ghost use Rattle.someipctl_show.specs.types.ValueLine.{has_value_fault};
 
 /// The line of an event of datagram 3, in which it begins at the place 19: its value, where that takes
 /// all bytes of the payload or some, and a fault, whose place counts in the datagram. A member stands
 /// behind its name, and a number is told by its name, where it has one.
 pub fn what_lines_say()
-    ensures value { value_line speed_types 3 19 (event_with (0 ∷ 42 ∷ 7 ∷ []))
-        ≡ codes "3 value speed (42,7)\n" }
-    ensures front { value_line speed_types 3 19 (event_with (0 ∷ 42 ∷ 7 ∷ 9 ∷ []))
-        ≡ codes "3 value speed (42,7) used 3 of 4\n" }
-    ensures fault { value_line speed_types 3 19 (event_with (0 ∷ 42 ∷ []))
-        ≡ codes "3 value fault Truncated at 37\n" }
-    ensures nameless { value_line (speed_of Notification None ∷ []) 3 19 (event_with (0 ∷ 42 ∷ 7 ∷ []))
-        ≡ codes "3 value (42,7)\n" }
-    ensures named { value_line named_types 3 19 (event_with (0 ∷ 42 ∷ 3 ∷ []))
-        ≡ codes "3 value speed (speed=42,gear=D)\n" }
-    ensures unnamed { value_line named_types 3 19 (event_with (0 ∷ 42 ∷ 4 ∷ []))
-        ≡ codes "3 value speed (speed=42,gear=4)\n" }
+    ensures value { IsOnlyLine speed_types 3 19 (event_with (0 ∷ 42 ∷ 7 ∷ [])) (codes "3 value speed (42,7)\n") }
+    ensures front { IsOnlyLine speed_types 3 19 (event_with (0 ∷ 42 ∷ 7 ∷ 9 ∷ [])) (codes "3 value speed (42,7) used 3 of 4\n") }
+    ensures fault { IsOnlyLine speed_types 3 19 (event_with (0 ∷ 42 ∷ [])) (codes "3 value fault Truncated at 37\n") }
+    ensures nameless { IsOnlyLine (speed_of Notification None ∷ []) 3 19 (event_with (0 ∷ 42 ∷ 7 ∷ [])) (codes "3 value (42,7)\n") }
+    ensures named { IsOnlyLine named_types 3 19 (event_with (0 ∷ 42 ∷ 3 ∷ [])) (codes "3 value speed (speed=42,gear=D)\n") }
+    ensures unnamed { IsOnlyLine named_types 3 19 (event_with (0 ∷ 42 ∷ 4 ∷ [])) (codes "3 value speed (speed=42,gear=4)\n") }
     ensures good { has_value_fault speed_types (event_with (0 ∷ 42 ∷ 7 ∷ 9 ∷ [])) ≡ false }
     ensures bad { has_value_fault speed_types (event_with (0 ∷ 42 ∷ [])) ≡ true }
 {}
 
 /// A message has no line where no table has its type, or its Message ID: a segment has none.
 pub fn what_has_no_line()
-    ensures kind { value_line speed_types 3 19 (message_with Request 0x8001 (0 ∷ 42 ∷ 7 ∷ [])) ≡ [] }
-    ensures segment { value_line speed_types 3 19 (message_with TpNotification 0x8001 (0 ∷ 42 ∷ 7 ∷ []))
-        ≡ [] }
-    ensures method { value_line speed_types 3 19 (message_with Notification 0x8002 (0 ∷ 42 ∷ 7 ∷ [])) ≡ [] }
+    ensures kind { IsOnlyLine speed_types 3 19 (message_with Request 0x8001 (0 ∷ 42 ∷ 7 ∷ [])) [] }
+    ensures segment { IsOnlyLine speed_types 3 19 (message_with TpNotification 0x8001 (0 ∷ 42 ∷ 7 ∷ [])) [] }
+    ensures method { IsOnlyLine speed_types 3 19 (message_with Notification 0x8002 (0 ∷ 42 ∷ 7 ∷ [])) [] }
     ensures good { has_value_fault speed_types (message_with Request 0x8001 (0 ∷ 42 ∷ [])) ≡ false }
 {}
 

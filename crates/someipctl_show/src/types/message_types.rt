@@ -6,7 +6,7 @@ ghost use Rattle.toml.specs.View.{view};
 ghost use Rattle.someipctl_show.specs.types.GoodTypes.{IsGoodTypes};
 ghost use Rattle.someipctl_show.specs.types.Says.{SaysTypes, TextSays, HasFault, TextHasFault, IsReadUnlessMemory, tree_of};
 ghost use Rattle.someipctl_show.specs.types.Types.{TypesValue, table_for};
-ghost use Rattle.someipctl_show.specs.types.ValueLine.{value_line, has_value_fault};
+ghost use Rattle.someipctl_show.specs.types.ValueLine.{IsValueLine, has_value_fault};
 ghost use Rattle.someipctl_show.specs.types.Views.{typed_view};
 
 use crate::types::error::TypesError;
@@ -104,7 +104,7 @@ impl MessageTypes {
         self.tables.is_empty()
     }
 
-    /// Makes the line of the value of a message of the k-th datagram, in place of what the line held: an
+    /// Makes a line of the value of a message of the k-th datagram, in place of what the line held: an
     /// empty one where no table names the message. Says whether it tells a fault. The message begins at
     /// the place in the datagram.
     ///
@@ -121,8 +121,8 @@ impl MessageTypes {
         line: &mut String,
     ) -> Result<bool, AllocError>
         requires room { place + length (spelling (message_view message.now)) ≤ usize.MAX }
-        ensures ok { OnOk result (string_bytes line.new
-            ≡ value_line self.now k place (message_view message.now)) }
+        ensures ok { OnOk result (IsValueLine self.now k place (message_view message.now)
+            (string_bytes line.new)) }
         ensures faulty { IfOk result (λ faulty. faulty ≡ has_value_fault self.now (message_view message.now)) }
         // Memory ran out: the line is empty.
         ensures err { OnErr result (string_bytes line.new ≡ []) }

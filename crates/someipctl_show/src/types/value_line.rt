@@ -5,11 +5,11 @@
 //!
 //! A value that leaves bytes is no fault, as in `payload`: how many it takes is told where it does not take
 //! all.
-ghost use Rattle.std.specs.Prelude.{◌≡◌, ◌+◌, ◌≤◌, ◌++◌, length, IfOk, OnOk, decimal, string_bytes};
+ghost use Rattle.std.specs.Prelude.{ℕ, List, ◌≡◌, ◌+◌, ◌≤◌, ◌++◌, length, IfOk, OnOk, decimal, string_bytes};
 ghost use Rattle.std.specs.Option.{option_map};
 ghost use Rattle.someip_payload_values.specs.View.{data_of, form};
 ghost use Rattle.someip_payload_codec.specs.Reading.{decoded};
-ghost use Rattle.someipctl_show.specs.types.ValueLine.{name_text, used_text, read_line, fault_line, payload_line, is_fault};
+ghost use Rattle.someipctl_show.specs.types.ValueLine.{name_text, used_text, IsReadLine, fault_line, IsPayloadLine, is_fault};
 ghost use Rattle.someipctl_show.specs.types.Views.{typed_view};
 
 use crate::types::typed_message::TypedMessage;
@@ -17,7 +17,7 @@ use someip_payload::{PayloadError, Told, decode};
 use someip_wire::Header;
 use std::alloc::{AllocError, Global};
 
-/// Puts the line of a payload after the text, by the table that names its message, which begins at the
+/// Puts a line of a payload after the text, by the table that names its message, which begins at the
 /// place in the k-th datagram. Says whether the line tells a fault.
 pub(crate) fn put_payload_line(
     alloc: Global,
@@ -28,8 +28,8 @@ pub(crate) fn put_payload_line(
     text: &mut String,
 ) -> Result<bool, AllocError>
     requires room { place + (16 + length payload.now) ≤ usize.MAX }
-    ensures line { OnOk result (string_bytes text.new
-        ≡ string_bytes text.old ++ payload_line (typed_view table.now) k place payload.now) }
+    ensures line { OnOk result ((line : List ℕ) × IsPayloadLine (typed_view table.now) k place payload.now line
+        × (string_bytes text.new ≡ string_bytes text.old ++ line)) }
     ensures faulty { IfOk result (λ faulty.
         faulty ≡ is_fault (decoded (form table.now.shape) payload.now)) }
 {
@@ -51,7 +51,7 @@ pub(crate) fn put_payload_line(
     }
 }
 
-/// Puts the line of a value after the text, which takes so many of all bytes of a payload.
+/// Puts a line of a value after the text, which takes so many of all bytes of a payload.
 fn put_read_line(
     text: &mut String,
     k: usize,
@@ -60,8 +60,9 @@ fn put_read_line(
     used: usize,
     all: usize,
 ) -> Result<(), AllocError>
-    ensures { OnOk result (string_bytes text.new ≡ string_bytes text.old
-        ++ read_line k (option_map (λ n. string_bytes n.now) name.entry) (form told.now.shape.now) (data_of told.now.value.now) used all) }
+    ensures { OnOk result ((line : List ℕ) × IsReadLine k (option_map (λ n. string_bytes n.now) name.entry)
+        (form told.now.shape.now) (data_of told.now.value.now) used all line
+        × (string_bytes text.new ≡ string_bytes text.old ++ line)) }
 {
     put_number(text, k)?;
     text.push_str(" value ")?;

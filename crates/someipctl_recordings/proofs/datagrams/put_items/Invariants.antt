@@ -1,9 +1,9 @@
 use Rattle.std.proofs.Common.{◌≡◌, ◌≤◌, ◌+◌, ◌||◌, length}
 use Rattle.recording.specs.View.{view_datagram}
-use Rattle.someipctl_io.proofs.SendingLemmas.{IsSending}
+use Rattle.someipctl_show.proofs.KindLemmas.{IsSendingOne}
 use Rattle.someipctl_show.proofs.ShownTextLemmas.{items_len}
 use Rattle.someipctl_recordings.specs.Gathered.{IsInTime, view_store}
-use Rattle.someipctl_recordings.specs.RecordedText.{has_fault_with, lines_with, store_after_all}
+use Rattle.someipctl_recordings.specs.RecordedText.{AreLinesWith, has_fault_with, store_after_all}
 use Rattle.someipctl_recordings.specs.Scenes.{scene_by}
 use Rattle.someipctl_recordings.proofs.datagrams.put_items.Given as goal
 
@@ -12,7 +12,7 @@ invariant-loop-item g l =
     let scene = scene_by l.fn.telling.values.types.now l.shown in
     let first = view_store g.S.Reassembly.limits g.S.Reassembly.parts l.fn.telling.store in
     let store = view_store g.S.Reassembly.limits g.S.Reassembly.parts l.telling.store in
-    IsSending (g.W.Write.contents l.initial.writer) l.initial.buffer (g.W.Write.contents l.writer) l.buffer (lines_with scene store l.place l.item-iterator) (lines_with scene first 0 l.initial.item-iterator)
+    IsSendingOne (g.W.Write.contents l.initial.writer) l.initial.buffer (g.W.Write.contents l.writer) l.buffer (AreLinesWith scene store l.place l.item-iterator) (AreLinesWith scene first 0 l.initial.item-iterator)
     × ((l.faulty || has_fault_with scene store l.item-iterator) ≡ has_fault_with scene first l.initial.item-iterator)
     × (l.place + items_len l.item-iterator ≤ length l.shown.datagram.payload.now)
     × (store_after_all store l.shown.now (view_datagram l.shown.datagram) l.item-iterator ≡ store_after_all first l.shown.now (view_datagram l.shown.datagram) l.initial.item-iterator)

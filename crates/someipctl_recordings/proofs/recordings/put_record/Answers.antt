@@ -1,4 +1,8 @@
-use Rattle.std.proofs.Common.{Ok, ap, sym, ◌∙◌, refl}
+use Rattle.std.proofs.Common.{Ok, [], ◌∷◌, ap, sym, ◌∙◌, refl}
+use Rattle.std.proofs.lemmas.Result.{on_ok_weaker, on_err_weaker}
+use Rattle.someipctl_show.proofs.KindLemmas.{sends_as, stops_as}
+use Rattle.someipctl_recordings.specs.Asked.{asked_of}
+use Rattle.someipctl_recordings.specs.RecordedText.{AreRecorded, IsRecordedText}
 use Rattle.std.specs.Prelude.{option_map}
 use Rattle.recording.specs.View.{view_datagram, view_record}
 use Rattle.someipctl_recordings.specs.Gathered.{view_store}
@@ -10,7 +14,11 @@ pub returns-clause-ok : goal.returns-clause-ok
 returns-clause-ok g c =
     let p = progress_of c.args.recorder.now.shown (view_store g.S.Reassembly.limits g.S.Reassembly.parts c.args.recorder.now.telling.store) in
     let taken = sym c.asked_in.ensures ∙ ap (option_map view_datagram) c.in-Some.is in
-    rw (recorded_one (view_asked c.args.asked.now) p (Ok (view_record c.args.found.now)) (view_datagram c.in-Some.datagram) taken) (c.put_next.ensures.ok (view_asked c.args.asked.now) (sym c.requires.types) refl)
+    let asked = view_asked c.args.asked.now in
+    let d = view_datagram c.in-Some.datagram in
+    on_ok_weaker c.put_next.result
+    (sends_as (IsRecordedText asked p d) (AreRecorded asked p (asked_of asked (Ok (view_record c.args.found.now) ∷ []))) _ _ _ _ (recorded_one asked p (Ok (view_record c.args.found.now)) d taken))
+    (c.put_next.ensures.ok asked (sym c.requires.types) refl)
 
 pub returns-clause-progress : goal.returns-clause-progress
 returns-clause-progress g c =
@@ -22,4 +30,8 @@ pub returns-clause-err : goal.returns-clause-err
 returns-clause-err g c =
     let p = progress_of c.args.recorder.now.shown (view_store g.S.Reassembly.limits g.S.Reassembly.parts c.args.recorder.now.telling.store) in
     let taken = sym c.asked_in.ensures ∙ ap (option_map view_datagram) c.in-Some.is in
-    rw (recorded_one (view_asked c.args.asked.now) p (Ok (view_record c.args.found.now)) (view_datagram c.in-Some.datagram) taken) (c.put_next.ensures.err (view_asked c.args.asked.now) (sym c.requires.types) refl)
+    let asked = view_asked c.args.asked.now in
+    let d = view_datagram c.in-Some.datagram in
+    on_err_weaker c.put_next.result
+    (stops_as (IsRecordedText asked p d) (AreRecorded asked p (asked_of asked (Ok (view_record c.args.found.now) ∷ []))) _ _ _ (recorded_one asked p (Ok (view_record c.args.found.now)) d taken))
+    (c.put_next.ensures.err asked (sym c.requires.types) refl)

@@ -18,6 +18,8 @@ returns-clause-shown g c = record {
   left = refl;
   datagrams = bytes_of_each c.in_ok-datagrams.datagrams.items;
   says = says c.args.text.now c.in_ok-datagrams.datagrams.items c.in_ok-datagrams.ensures.found;
-  wrote = rw (c.deref-2.ensures.value, c.keep_asked.ensures, c.new-values.ensures) at c.in_ok-outcome.ensures.ok;
+  text = c.in_ok-outcome.ensures.ok.0;
+  shows = rw (c.deref-2.ensures.value, c.keep_asked.ensures, c.new-values.ensures) at c.in_ok-outcome.ensures.ok.1;
+  wrote = c.in_ok-outcome.ensures.ok.2;
   tells = rw (c.deref-2.ensures.value, c.keep_asked.ensures, c.new-values.ensures) at c.in_ok-outcome.ensures.outcome;
 }

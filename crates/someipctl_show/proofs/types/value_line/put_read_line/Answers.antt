@@ -1,4 +1,8 @@
-use Rattle.std.proofs.Common.{◌≡◌, ℕ, List, ◌++◌, append_assoc}
+use Rattle.std.proofs.Common.{◌≡◌, ℕ, List, ◌++◌, append_assoc, refl}
+use Rattle.std.specs.Prelude.{option_map, string_bytes}
+use Rattle.someip_payload_values.specs.View.{data_of, form}
+use Rattle.someip_payload_values.specs.ValueText.{data_text}
+use Rattle.someipctl_show.specs.types.ValueLine.{read_line}
 use Rattle.someipctl_show.proofs.types.value_line.put_read_line.Goals as goal
 
 -- a text to which six were added one after the other
@@ -8,5 +12,9 @@ six_added old a b c d e f t1 t2 t3 t4 t5 t6 e1 e2 e3 e4 e5 e6 = rw (e6, e5, e4, 
 
 pub returns : goal.returns
 returns c =
-    six_added _ _ _ _ _ _ _ _ _ _ _ _ _ c.in_ok-put_number.ensures c.in_ok-push_str.ensures.bytes c.in_ok-put_name.ensures c.in_ok-write.ensures.bytes
-    c.in_ok-put_used.ensures c.in_ok-push_str-2.ensures.bytes
+    let told = data_text (form c.args.told.now.shape.now) (data_of c.args.told.now.value.now) in (
+      read_line c.args.k (option_map (λ n. string_bytes n.now) c.args.name) told c.args.used c.args.all,
+      (told, refl, refl),
+      six_added _ _ _ _ _ _ _ _ _ _ _ _ _ c.in_ok-put_number.ensures c.in_ok-push_str.ensures.bytes c.in_ok-put_name.ensures c.in_ok-write.ensures.bytes
+          c.in_ok-put_used.ensures c.in_ok-push_str-2.ensures.bytes,
+    )

@@ -1,0 +1,55 @@
+-- What is printed of a recording has a text.
+use Rattle.std.proofs.Common.{◌≡◌, Bool, ℕ, ◌+◌, List, [], ◌∷◌, ◌++◌, Option, Some, None, Result, Ok, Err, refl}
+use Rattle.recording.specs.Packets.{DatagramValue}
+use Rattle.someip_wire.specs.declared.WireError.{WireError}
+use Rattle.someip_wire.specs.Spelling.{MessageValue}
+use Rattle.someip_wire.specs.Reading.{items_of}
+use Rattle.someip_reassembly.specs.declared.TpError.{TpError}
+use Rattle.someip_reassembly.specs.Names.{error_name}
+use Rattle.someipctl_io.specs.Items.{item_len}
+use Rattle.someipctl_io.specs.Lines.{dropped_line, empty_line, whole_line}
+use Rattle.someipctl_show.specs.types.Types.{TypesValue}
+use Rattle.someipctl_show.proofs.SomeTexts.{some_item, some_value}
+use Rattle.someipctl_recordings.specs.Asked.{AskedValue}
+use Rattle.someipctl_recordings.specs.Gathered.{StoreValue, store_after, told_of}
+use Rattle.someipctl_recordings.specs.RecordedText.{AreItemLines, AreLinesOf, AreLinesWith, AreRecorded, Headed, IsGatheredText, IsRecordedText, IsSceneText, Progress, Scene, after_datagram, headed_text, scene_of}
+
+pub some_gathered : (types : TypesValue) (k : ℕ) (told : Option (Result MessageValue TpError)) → (text : List ℕ) × IsGatheredText types k told text
+some_gathered types k None = ([], refl)
+some_gathered types k (Some (Ok m)) =
+    let v = some_value types k 0 m in
+    (whole_line k m ++ v.0, (v.0, v.1, refl))
+some_gathered types k (Some (Err refusal)) = (dropped_line k (error_name refusal), refl)
+
+pub some_item_lines : (c : Scene) (store : Option StoreValue) (place : ℕ) (item : Result MessageValue WireError) → (text : List ℕ) × AreItemLines c store place item text
+some_item_lines c store place item =
+    let own = some_item c.types c.k place item in
+    let gathered = some_gathered c.types c.k (told_of store c.now c.datagram item) in
+    (own.0 ++ gathered.0, (own.0, gathered.0, refl, own.1, gathered.1))
+
+pub some_lines_with : (c : Scene) (store : Option StoreValue) (place : ℕ) (given : List (Result MessageValue WireError)) → (text : List ℕ) × AreLinesWith c store place given text
+some_lines_with c store place [] = ([], refl)
+some_lines_with c store place (item ∷ given) =
+    let own = some_item_lines c store place item in
+    let others = some_lines_with c (store_after store c.now c.datagram item) (place + item_len item) given in
+    (own.0 ++ others.0, (own.0, others.0, refl, own.1, others.1))
+
+some_lines_of : (c : Scene) (store : Option StoreValue) (bytes : List ℕ) → (text : List ℕ) × AreLinesOf c store bytes text
+some_lines_of c store [] = (empty_line c.k, refl)
+some_lines_of c store (b ∷ bytes) = some_lines_with c store 0 (items_of (b ∷ bytes))
+
+pub some_scene : (c : Scene) (store : Option StoreValue) → (text : List ℕ) × IsSceneText c store text
+some_scene c store = some_lines_of c store c.datagram.payload
+
+pub some_headed : (endpoints : Bool) (d : DatagramValue) (Kind : List ℕ → Type 0) → ((text : List ℕ) × Kind text) → (text : List ℕ) × Headed endpoints d Kind text
+some_headed endpoints d Kind some = (headed_text endpoints d some.0, (some.0, some.1, refl))
+
+some_recorded_text : (asked : AskedValue) (p : Progress) (d : DatagramValue) → (text : List ℕ) × IsRecordedText asked p d text
+some_recorded_text asked p d = some_headed asked.endpoints d (IsSceneText (scene_of asked p d) p.store) (some_scene (scene_of asked p d) p.store)
+
+pub some_recorded : (asked : AskedValue) (p : Progress) (ds : List DatagramValue) → (text : List ℕ) × AreRecorded asked p ds text
+some_recorded asked p [] = ([], refl)
+some_recorded asked p (d ∷ ds) =
+    let own = some_recorded_text asked p d in
+    let others = some_recorded asked (after_datagram asked p d) ds in
+    (own.0 ++ others.0, (own.0, others.0, refl, own.1, others.1))
