@@ -9,12 +9,14 @@ use Rattle.someip_payload_values.specs.declared.error.PayloadError.TheVariants.{
 use Rattle.someip_payload_values.specs.declared.number.Order.{Order}
 use Rattle.someip_payload_values.specs.declared.number.Size.{Size}
 use Rattle.someip_payload_values.specs.declared.shape.Width.{Width}
-use Rattle.someip_payload_values.specs.Data.{Form, bool, unsigned, signed, string, padded, array, fixed, «struct», union, tagged, named, enumerated, Forms, form_then, Variants, no_variants, variant, Members, member_then, Data, truth, uint, int, phrase, list, tuple, nothing, chosen, slotted, Items, no_items, item, Slots, present, absent, count}
+use Rattle.someip_payload_values.specs.Data.{Form, bool, unsigned, signed, float, string, padded, array, fixed, «struct», union, tagged, named, enumerated, Forms, form_then, Variants, no_variants, variant, Members, member_then, Data, truth, uint, int, real, phrase, list, tuple, nothing, chosen, slotted, Items, no_items, item, Slots, present, absent, count}
+use Rattle.someip_payload_values.specs.declared.number.Size.TheVariants.{S32, S64}
+use Rattle.someip_payload_values.specs.Floats.{Precision, single, double}
 use Rattle.someip_payload_values.specs.Steps.{◌>>=◌, Fails}
 use Rattle.someip_payload_values.specs.Check.{depth, is_form, checked}
 use Rattle.someip_payload_values.specs.Numbers.{width_of, limit_of, size_of, is_signed, number_in, framed, typed}
 use Rattle.someip_payload_values.specs.Tags.{item_bytes, wire_type_of}
-use Rattle.someip_payload_values.specs.Writing.{count_forms, number_text, signed_text, body_text, text_body, each_text, array_text, fixed_text, framed_text, has_zero, padded_text, typed_text, chosen_text, item_text, absent_text, count_members, count_slots, text_of, members_text, variant_text, slots_text, encoded, Appends, IsRefusal}
+use Rattle.someip_payload_values.specs.Writing.{count_forms, number_text, signed_text, body_text, text_body, each_text, array_text, fixed_text, framed_text, has_zero, padded_text, typed_text, chosen_text, real_text, item_text, absent_text, count_members, count_slots, text_of, members_text, variant_text, slots_text, encoded, Appends, IsRefusal}
 use Rattle.someip_payload_values.proofs.StepLemmas.{bind_err, passed_err, kept_err}
 
 -- ---- shapes
@@ -89,6 +91,13 @@ choice_kind false r s e first next h = next h
 refused : (d e : PayloadError) → IsRefusal d → (let r : Result (List ℕ) PayloadError = Err d in r) ≡ Err e → IsRefusal e
 refused d e is h = let same : d ≡ e = cc in subst IsRefusal same is
 
+real_kind : (order : Order) (p own : Precision) (bits : ℕ) (e : PayloadError) → real_text order p own bits ≡ Err e → IsRefusal e
+unfolding real_text
+real_kind order single single bits e h = number_kind order S32 bits e h
+real_kind order double double bits e h = number_kind order S64 bits e h
+real_kind order single double bits e h = refused (NotOfShape 0) e refl h
+real_kind order double single bits e h = refused (NotOfShape 0) e refl h
+
 mutual
   unfolding text_of members_text variant_text slots_text array_text fixed_text framed_text padded_text item_text absent_text
 
@@ -98,6 +107,7 @@ mutual
   text_kind bool (truth b) e h = absurd cc
   text_kind (unsigned order size) (uint n) e h = number_kind order size n e h
   text_kind (signed order size) (int z) e h = signed_kind order size z e h
+  text_kind (float order p) (real own bits) e h = real_kind order p own bits e h
   text_kind (padded encoding n) (phrase s) e h =
       choice_kind (is_utf8 s && not (has_zero s)) (padded_text n (text_body encoding s)) (Err (NotOfShape 0)) e
       (λ k. choice_kind (ltb n (length (text_body encoding s))) (Err (TooLong 0)) (Ok (text_body encoding s ++ replicate (n - length (text_body encoding s)) 0)) e (refused (TooLong 0) e refl) (λ never. absurd cc) k) (refused (NotOfShape 0) e refl) h

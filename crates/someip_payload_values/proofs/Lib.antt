@@ -7,3 +7,6 @@ mod Characters
 mod OtherNumbers
 mod OtherNames
 mod ValueTexts
+mod FloatsSaid
+pub mod FloatTexts
+pub mod ToldTexts

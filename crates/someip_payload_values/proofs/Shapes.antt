@@ -2,16 +2,17 @@
 use Rattle.std.proofs.Common.{◌≡◌, ℕ, ◌+◌, ◌<◌, ◌==◌, not, true, Vec, Box, Global, Option, Some, None, String, string_bytes, rules, List, [], ◌∷◌, length, drop, get_or, refl, arith}
 use Rattle.std.proofs.lemmas.Bool.Decides.{nat_tests}
 use Rattle.std.proofs.lemmas.List.{drop_more}
-use Rattle.std.specs.Prelude.{ℤ}
+use Rattle.std.specs.Prelude.{ℤ, Bool as Bit}
 use Rattle.someip_payload_values.specs.declared.shape.Encoding.{Encoding}
 use Rattle.someip_payload_values.specs.declared.shape.Width.{Width}
 use Rattle.someip_payload_values.specs.declared.shape.Width.TheVariants.{W32}
-use Rattle.someip_payload_values.specs.declared.number.Order.TheVariants.{Little}
+use Rattle.someip_payload_values.specs.declared.number.Order.TheVariants.{Big, Little}
 use Rattle.someip_payload_values.specs.declared.number.Size.TheVariants.{S16, S32, S64}
-use Rattle.someip_payload_values.specs.declared.shape.Shape.{Shape, Bool, U8, U16, U32, U64, I8, I16, I32, I64, U16Le, U32Le, U64Le, I16Le, I32Le, I64Le, Text, FixedText, Array, Fixed, FramedFixed, Struct, Union, SizedUnion, Tagged, Named, Enum, the_lemmas}
+use Rattle.someip_payload_values.specs.declared.shape.Shape.{Shape, Bool, U8, U16, U32, U64, I8, I16, I32, I64, U16Le, U32Le, U64Le, I16Le, I32Le, I64Le, F32, F64, F32Le, F64Le, Text, FixedText, Array, Fixed, FramedFixed, Struct, Union, SizedUnion, Tagged, Named, Enum, the_lemmas}
 use Rattle.someip_payload_values.specs.declared.shape.Member.{Member, out-Member}
-use Rattle.someip_payload_values.specs.declared.value.Value.{Value, Uint, Int, Text as TextValue, List as ListValue, Struct as StructValue, Union as UnionValue, Tagged as TaggedValue, the_lemmas as value_lemmas}
-use Rattle.someip_payload_values.specs.Data.{Form, bool, u8, u16, u32, u64, i8, i16, i32, i64, form_then, variant, member_then, unsigned, signed, string, padded, array, fixed, «struct», union, tagged, named, enumerated, uint, int, phrase, list, tuple, chosen, slotted}
+use Rattle.someip_payload_values.specs.declared.value.Value.{Value, Bool as BoolValue, Uint, Int, F32 as SingleValue, F64 as DoubleValue, Text as TextValue, List as ListValue, Struct as StructValue, Union as UnionValue, Tagged as TaggedValue, the_lemmas as value_lemmas}
+use Rattle.someip_payload_values.specs.Data.{Form, bool, u8, u16, u32, u64, i8, i16, i32, i64, form_then, variant, member_then, unsigned, signed, float, string, padded, array, fixed, «struct», union, tagged, named, enumerated, truth, uint, int, real, phrase, list, tuple, chosen, slotted}
+use Rattle.someip_payload_values.specs.Floats.{single, double}
 use Rattle.someip_payload_values.specs.Check.{depth, has_members, has_variants, has_tagged_members}
 use Rattle.someip_payload_values.specs.View.{form, forms, all_variants, all_members, labels_of, data_of, data_of_all, data_of_choice, slots_of}
 
@@ -110,6 +111,18 @@ form-I32Le = search (rules, the_lemmas)
 pub form-I64Le : form I64Le ≡ signed Little S64
 form-I64Le = search (rules, the_lemmas)
 
+pub form-F32 : form F32 ≡ float Big single
+form-F32 = search (rules, the_lemmas)
+
+pub form-F64 : form F64 ≡ float Big double
+form-F64 = search (rules, the_lemmas)
+
+pub form-F32Le : form F32Le ≡ float Little single
+form-F32Le = search (rules, the_lemmas)
+
+pub form-F64Le : form F64Le ≡ float Little double
+form-F64Le = search (rules, the_lemmas)
+
 pub form-FixedText : (encoding : Encoding) (n : ℕ) → form (FixedText encoding n) ≡ padded encoding n
 form-FixedText encoding n = search (rules, the_lemmas)
 
@@ -134,11 +147,20 @@ form-Fixed n element = search (rules, the_lemmas)
 pub form-Struct : (width : Option Width) (ss : Vec Shape Global) → form (Struct width ss) ≡ «struct» width (forms ss.items)
 form-Struct width ss = search (rules, the_lemmas)
 
+pub data_of-Bool : (b : Bit) → data_of (BoolValue b) ≡ truth b
+data_of-Bool b = search (rules, value_lemmas)
+
 pub data_of-Uint : (n : ℕ) → data_of (Uint n) ≡ uint n
 data_of-Uint n = search (rules, value_lemmas)
 
 pub data_of-Int : (z : ℤ) → data_of (Int z) ≡ int z
 data_of-Int z = search (rules, value_lemmas)
+
+pub data_of-F32 : (bits : ℕ) → data_of (SingleValue bits) ≡ real single bits
+data_of-F32 bits = search (rules, value_lemmas)
+
+pub data_of-F64 : (bits : ℕ) → data_of (DoubleValue bits) ≡ real double bits
+data_of-F64 bits = search (rules, value_lemmas)
 
 pub data_of-List : (vs : Vec Value Global) → data_of (ListValue vs) ≡ list (data_of_all vs.items)
 data_of-List vs = search (rules, value_lemmas)
@@ -158,5 +180,6 @@ some_depth (tagged width ms) = omega arith
 some_depth bool = omega arith
 some_depth (unsigned order size) = omega arith
 some_depth (signed order size) = omega arith
+some_depth (float order p) = omega arith
 some_depth (string encoding width) = omega arith
 some_depth (padded encoding n) = omega arith

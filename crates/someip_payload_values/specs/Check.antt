@@ -9,7 +9,7 @@ use Rattle.someip_payload_values.specs.declared.shape.Width.{Width}
 use Rattle.someip_payload_values.specs.declared.shape.Encoding.{Encoding}
 use Rattle.someip_payload_values.specs.declared.shape.Encoding.TheVariants.{Utf8, Utf16}
 use Rattle.someip_payload_values.specs.Numbers.{limit_of, size_of, is_signed}
-use Rattle.someip_payload_values.specs.Data.{Form, bool, unsigned, signed, string, padded, array, fixed, «struct», union, tagged, named, enumerated, Forms, no_forms, form_then, Variants, no_variants, variant, Members, no_members, member_then}
+use Rattle.someip_payload_values.specs.Data.{Form, bool, unsigned, signed, float, string, padded, array, fixed, «struct», union, tagged, named, enumerated, Forms, no_forms, form_then, Variants, no_variants, variant, Members, no_members, member_then}
 
 abbrev mutual
   -- how many forms lie inside each other, this one among them
@@ -24,6 +24,7 @@ abbrev mutual
   depth bool = 1
   depth (unsigned order size) = 1
   depth (signed order size) = 1
+  depth (float order p) = 1
   depth (string encoding width) = 1
   depth (padded encoding n) = 1
 
@@ -59,6 +60,7 @@ is_fixed (fixed width n element) = true
 is_fixed bool = false
 is_fixed (unsigned order size) = false
 is_fixed (signed order size) = false
+is_fixed (float order p) = false
 is_fixed (string encoding width) = false
 is_fixed (array width most element) = false
 is_fixed («struct» width fs) = false
@@ -78,6 +80,7 @@ can_be_tagged («struct» (Some width) fs) = true
 can_be_tagged bool = true
 can_be_tagged (unsigned order size) = true
 can_be_tagged (signed order size) = true
+can_be_tagged (float order p) = true
 can_be_tagged (string encoding width) = true
 can_be_tagged (array width most element) = true
 can_be_tagged (union width type vs) = true
@@ -131,6 +134,7 @@ name_in (enumerated f labels) = []
 name_in bool = []
 name_in (unsigned order size) = []
 name_in (signed order size) = []
+name_in (float order p) = []
 name_in (string encoding width) = []
 name_in (padded encoding n) = []
 name_in (array width most element) = []
@@ -189,6 +193,7 @@ abbrev mutual
   is_form bool = true
   is_form (unsigned order size) = true
   is_form (signed order size) = true
+  is_form (float order p) = true
   is_form (string encoding width) = true
   is_form (padded encoding n) = is_room encoding n
 

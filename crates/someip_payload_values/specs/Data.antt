@@ -6,12 +6,14 @@ use Rattle.someip_payload_values.specs.declared.number.Size.{Size}
 use Rattle.someip_payload_values.specs.declared.number.Size.TheVariants.{S8, S16, S32, S64}
 use Rattle.someip_payload_values.specs.declared.shape.Width.{Width}
 use Rattle.someip_payload_values.specs.declared.shape.Encoding.{Encoding}
+use Rattle.someip_payload_values.specs.Floats.{Precision}
 
 mutual
   pub data Form : Type 0 where
     bool : Form
     unsigned : Order → Size → Form
     signed : Order → Size → Form
+    float : Order → Precision → Form
     string : Encoding → Width → Form
     -- a text in exactly so many bytes
     padded : Encoding → ℕ → Form
@@ -68,11 +70,14 @@ abbrev pub i64 : Form
 i64 = signed Big S64
 
 mutual
-  -- a text is its bytes in UTF-8
+  -- a text is its bytes in UTF-8, and a float its bits
   pub data Data : Type 0 where
     truth : Bool → Data
     uint : ℕ → Data
     int : ℤ → Data
+    real : Precision → ℕ → Data
+    -- a text that stands in place of a float where a value is told; no value has one
+    said : List ℕ → Data
     phrase : List ℕ → Data
     list : Items → Data
     tuple : Items → Data

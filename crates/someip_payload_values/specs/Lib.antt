@@ -3,8 +3,10 @@ pub mod View
 pub mod Steps
 pub mod Check
 pub mod Numbers
+pub mod Floats
 pub mod Tags
 pub mod Texts
 pub mod Writing
 pub mod ValueText
+pub mod ToldText
 pub mod Names

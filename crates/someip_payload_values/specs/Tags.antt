@@ -9,7 +9,8 @@ use Rattle.someip_payload_values.specs.declared.shape.Width.TheVariants.{W8, W16
 use Rattle.someip_payload_values.specs.declared.tag.WireType.{WireType}
 use Rattle.someip_payload_values.specs.declared.tag.WireType.TheVariants.{Basic, OwnLength, Length}
 use Rattle.someip_payload_values.specs.declared.tag.Tag.{Tag}
-use Rattle.someip_payload_values.specs.Data.{Form, bool, unsigned, signed, string, padded, array, fixed, «struct», union, tagged, named, enumerated}
+use Rattle.someip_payload_values.specs.Data.{Form, bool, unsigned, signed, float, string, padded, array, fixed, «struct», union, tagged, named, enumerated}
+use Rattle.someip_payload_values.specs.Floats.{bits_size}
 use Rattle.someip_payload_values.specs.Numbers.{width_of, number, bit_of, Framed}
 
 -- the standard's table of wire types
@@ -71,6 +72,7 @@ own_width bool = W32
 own_width (padded encoding n) = W32
 own_width (unsigned order size) = W32
 own_width (signed order size) = W32
+own_width (float order p) = W32
 own_width (fixed None n element) = W32
 own_width («struct» None fs) = W32
 
@@ -109,6 +111,7 @@ abbrev pub has_wire_type : Form → WireType → Bool
 has_wire_type bool t = is_basic S8 t
 has_wire_type (unsigned order size) t = is_basic size t
 has_wire_type (signed order size) t = is_basic size t
+has_wire_type (float order p) t = is_basic (bits_size p) t
 has_wire_type (string encoding width) t = is_length t
 has_wire_type (array width most element) t = is_length t
 has_wire_type («struct» (Some width) fs) t = is_length t
@@ -132,6 +135,7 @@ abbrev pub wire_type_of : Form → WireType
 wire_type_of bool = Basic S8
 wire_type_of (unsigned order size) = Basic size
 wire_type_of (signed order size) = Basic size
+wire_type_of (float order p) = Basic (bits_size p)
 wire_type_of (string encoding width) = Length width
 wire_type_of (array width most element) = Length width
 wire_type_of («struct» (Some width) fs) = Length width

@@ -5,10 +5,8 @@ use Rattle.std.specs.List.{flat_map}
 use Rattle.std.specs.Str.{chars}
 use Rattle.std.specs.Char.{encode_utf8}
 use Rattle.std.specs.Fmt.{decimal, signed_decimal, digits}
-use Rattle.someip_payload_values.specs.declared.value.Value.{Value}
-use Rattle.someip_payload_values.specs.Data.{Form, bool, unsigned, signed, string, padded, array, fixed, «struct», union, tagged, named, enumerated, Forms, no_forms, form_then, Variants, no_variants, variant, Members, no_members, member_then, Data, truth, uint, int, phrase, list, tuple, nothing, chosen, slotted, Items, no_items, item, Slots, no_slots, present, absent}
+use Rattle.someip_payload_values.specs.Data.{Form, bool, unsigned, signed, float, string, padded, array, fixed, «struct», union, tagged, named, enumerated, Forms, no_forms, form_then, Variants, no_variants, variant, Members, no_members, member_then, Data, truth, uint, int, real, said, phrase, list, tuple, nothing, chosen, slotted, Items, no_items, item, Slots, no_slots, present, absent}
 use Rattle.someip_payload_values.specs.Check.{name_in}
-use Rattle.someip_payload_values.specs.View.{data_of}
 
 -- a character between quotes: a quote and a backslash stand after a backslash, and a control
 -- character of ASCII is written by its number
@@ -38,6 +36,7 @@ labels_in (enumerated f labels) = labels
 labels_in bool = []
 labels_in (unsigned order size) = []
 labels_in (signed order size) = []
+labels_in (float order p) = []
 labels_in (string encoding width) = []
 labels_in (padded encoding n) = []
 labels_in (array width most element) = []
@@ -55,6 +54,7 @@ element_in (enumerated f labels) = bool
 element_in bool = bool
 element_in (unsigned order size) = bool
 element_in (signed order size) = bool
+element_in (float order p) = bool
 element_in (string encoding width) = bool
 element_in (padded encoding n) = bool
 element_in («struct» width fs) = bool
@@ -71,6 +71,7 @@ members_in (enumerated f labels) = no_forms
 members_in bool = no_forms
 members_in (unsigned order size) = no_forms
 members_in (signed order size) = no_forms
+members_in (float order p) = no_forms
 members_in (string encoding width) = no_forms
 members_in (padded encoding n) = no_forms
 members_in (union width type vs) = no_forms
@@ -87,6 +88,7 @@ variants_in (enumerated f labels) = no_variants
 variants_in bool = no_variants
 variants_in (unsigned order size) = no_variants
 variants_in (signed order size) = no_variants
+variants_in (float order p) = no_variants
 variants_in (string encoding width) = no_variants
 variants_in (padded encoding n) = no_variants
 variants_in (tagged width ms) = no_variants
@@ -103,6 +105,7 @@ tagged_in (enumerated f labels) = no_members
 tagged_in bool = no_members
 tagged_in (unsigned order size) = no_members
 tagged_in (signed order size) = no_members
+tagged_in (float order p) = no_members
 tagged_in (string encoding width) = no_members
 tagged_in (padded encoding n) = no_members
 
@@ -145,11 +148,14 @@ other_members no_members = no_members
 other_members (member_then id optional f ms) = ms
 
 unfoldable mutual
-  -- the text of a value as its form has it: members with their names, and numbers by theirs
+  -- the text of a told value as its form has it: members with their names, and numbers by theirs. A float has no
+  -- text of its own, so a told value has one in its place.
   pub data_text : Form → Data → List ℕ
   data_text f (truth b) = if b then codes "true" else codes "false"
   data_text f (uint n) = number_said (labels_in f) (pos n)
   data_text f (int z) = number_said (labels_in f) z
+  data_text f (real p bits) = []
+  data_text f (said text) = text
   data_text f (phrase s) = quoted s
   data_text f (list ds) = codes "[" ++ (listed (element_texts (element_in f) ds) ++ codes "]")
   data_text f (tuple ds) = codes "(" ++ (listed (member_texts (members_in f) ds) ++ codes ")")
@@ -171,10 +177,6 @@ unfoldable mutual
   slot_texts ms no_slots = []
   slot_texts ms (present d ss) = (name_text (first_member ms) ++ data_text (first_member ms) d) ∷ slot_texts (other_members ms) ss
   slot_texts ms (absent ss) = (name_text (first_member ms) ++ codes "-") ∷ slot_texts (other_members ms) ss
-
--- the text of a value without names
-abbrev pub value_text : Value → List ℕ
-value_text value = data_text bool (data_of value)
 
 -- ---- parts that are printed
 

@@ -1,7 +1,8 @@
 -- What shapes and values stand for.
 use Rattle.std.specs.Prelude.{ℕ, ℤ, Bool, List, [], ◌∷◌, map, Option, Some, None, Box, String, string_bytes}
 use Rattle.std.specs.declared.alloc.Global.{Global}
-use Rattle.someip_payload_values.specs.Data.{Form, bool, unsigned, signed, string, padded, array, fixed, «struct», union, tagged, named, enumerated, Forms, no_forms, form_then, Variants, no_variants, variant, Members, no_members, member_then, Data, truth, uint, int, phrase, list, tuple, nothing, chosen, slotted, Items, no_items, item, Slots, no_slots, present, absent}
+use Rattle.someip_payload_values.specs.Data.{Form, bool, unsigned, signed, float, string, padded, array, fixed, «struct», union, tagged, named, enumerated, Forms, no_forms, form_then, Variants, no_variants, variant, Members, no_members, member_then, Data, truth, uint, int, real, phrase, list, tuple, nothing, chosen, slotted, Items, no_items, item, Slots, no_slots, present, absent}
+use Rattle.someip_payload_values.specs.Floats.{single, double}
 use Rattle.someip_payload_values.specs.declared.number.Order.TheVariants.{Big, Little}
 use Rattle.someip_payload_values.specs.declared.shape.Width.TheVariants.{W32}
 use Rattle.someip_payload_values.specs.declared.number.Size.TheVariants.{S8, S16, S32, S64}
@@ -59,6 +60,10 @@ form_step Shape-F.U64Le = unsigned Little S64
 form_step Shape-F.I16Le = signed Little S16
 form_step Shape-F.I32Le = signed Little S32
 form_step Shape-F.I64Le = signed Little S64
+form_step Shape-F.F32 = float Big single
+form_step Shape-F.F64 = float Big double
+form_step Shape-F.F32Le = float Little single
+form_step Shape-F.F64Le = float Little double
 form_step (Shape-F.Text encoding w) = string encoding w
 form_step (Shape-F.FixedText encoding n) = padded encoding n
 form_step (Shape-F.Array w max f) = array w max f.value
@@ -94,6 +99,8 @@ abbrev pub data_step : Value-F Data → Data
 data_step (Value-F.Bool b) = truth b
 data_step (Value-F.Uint n) = uint n
 data_step (Value-F.Int z) = int z
+data_step (Value-F.F32 bits) = real single bits
+data_step (Value-F.F64 bits) = real double bits
 data_step (Value-F.Text s) = phrase (string_bytes s)
 data_step (Value-F.List ds) = list (as_items ds.items)
 data_step (Value-F.Struct ds) = tuple (as_items ds.items)

@@ -8,14 +8,15 @@ use Rattle.someip_payload_values.specs.declared.error.PayloadError.TheVariants a
 use Rattle.someip_payload_values.specs.declared.error.PayloadError.TheVariants.{NotOfShape, TooMany, TooLong, UnknownVariant}
 use Rattle.someip_payload_values.specs.declared.number.Order.{Order}
 use Rattle.someip_payload_values.specs.declared.number.Size.{Size}
-use Rattle.someip_payload_values.specs.declared.number.Size.TheVariants.{S8}
+use Rattle.someip_payload_values.specs.declared.number.Size.TheVariants.{S8, S32, S64}
 use Rattle.someip_payload_values.specs.declared.shape.Width.{Width}
 use Rattle.someip_payload_values.specs.declared.shape.Encoding.{Encoding}
 use Rattle.someip_payload_values.specs.declared.shape.Encoding.TheVariants.{Utf8, Utf16}
 use Rattle.someip_payload_values.specs.Steps.{◌>>=◌, Fails}
 use Rattle.someip_payload_values.specs.Check.{checked}
 use Rattle.someip_payload_values.specs.Texts.{utf8_mark, unit_bytes, units_of_text}
-use Rattle.someip_payload_values.specs.Data.{Form, bool, unsigned, signed, string, padded, array, fixed, «struct», union, tagged, named, enumerated, Forms, no_forms, form_then, Variants, no_variants, variant, Members, no_members, member_then, Data, truth, uint, int, phrase, list, tuple, nothing, chosen, slotted, Items, no_items, item, Slots, no_slots, present, absent, count}
+use Rattle.someip_payload_values.specs.Data.{Form, bool, unsigned, signed, float, string, padded, array, fixed, «struct», union, tagged, named, enumerated, Forms, no_forms, form_then, Variants, no_variants, variant, Members, no_members, member_then, Data, truth, uint, int, real, phrase, list, tuple, nothing, chosen, slotted, Items, no_items, item, Slots, no_slots, present, absent, count}
+use Rattle.someip_payload_values.specs.Floats.{Precision, single, double}
 use Rattle.someip_payload_values.specs.Numbers.{is_signed, width_of, limit_of, size_of, number, number_in, bit_of, framed, typed}
 use Rattle.someip_payload_values.specs.Tags.{item_bytes, wire_type_of}
 use Rattle.someip_payload_values.specs.View.{OneMember}
@@ -40,6 +41,13 @@ number_text order size n = if nat_lt n (limit_of size) then Ok (number_in order 
 -- a signed number in two's complement, unless it is out of the range of its size
 unfoldable pub signed_text : Order → Size → ℤ → Result (List ℕ) PayloadError
 signed_text order size z = if is_signed size z then Ok (number_in order size (cast_unsigned (width_of size) z)) else Err (NotOfShape 0)
+
+-- the bits of a float, unless it is of the other precision than its form
+unfoldable pub real_text : Order → Precision → Precision → ℕ → Result (List ℕ) PayloadError
+real_text order single single bits = number_text order S32 bits
+real_text order double double bits = number_text order S64 bits
+real_text order single double bits = Err (NotOfShape 0)
+real_text order double single bits = Err (NotOfShape 0)
 
 -- a body after its length field, unless it is longer than that can say: `TooLong`
 unfoldable pub body_text : Width → List ℕ → Result (List ℕ) PayloadError
@@ -100,6 +108,7 @@ unfoldable mutual
   text_of bool (truth b) = Ok (number S8 (bit_of b))
   text_of (unsigned order size) (uint n) = number_text order size n
   text_of (signed order size) (int z) = signed_text order size z
+  text_of (float order p) (real own bits) = real_text order p own bits
   text_of (string encoding width) (phrase s) = if is_utf8 s then body_text width (text_body encoding s) else Err (NotOfShape 0)
   text_of (padded encoding n) (phrase s) = if is_utf8 s && not (has_zero s) then padded_text n (text_body encoding s) else Err (NotOfShape 0)
   text_of (array width most element) (list ds) = array_text width most (text_of element) ds

@@ -3,7 +3,8 @@
 //!
 //! - [`Shape`], with [`Width`], [`Encoding`] and [`Member`]: what a payload is read by; [`Value`]: what it says;
 //! - [`check_shape`]: whether payloads can have a shape; [`MAX_DEPTH`]: how deep it may be;
-//! - [`encode`]: a value as bytes; [`PayloadError`]: the first fault;
+//! - [`encode`]: a value as bytes; [`Told`]: its text; [`PayloadError`]: the first fault;
+//! - [`laws`]: what the definitions behind the contracts promise;
 //! - what reading needs as well: the [`Order`] and [`Size`] of a number, with [`size_of`]; the [`Tag`] and the
 //!   [`WireType`] of an item of a tagged structure, with [`tag_in`], [`has_wire_type`], [`own_width`]
 //!   and [`width_in`].
@@ -11,6 +12,8 @@
 
 mod check;
 mod error;
+mod float_text;
+pub mod laws;
 mod names;
 mod number;
 mod shape;

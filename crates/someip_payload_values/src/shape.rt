@@ -41,6 +41,12 @@ pub enum Shape {
     I16Le,
     I32Le,
     I64Le,
+    /// A float of IEEE 754 (binary32 and binary64). Its bits are kept, also those of a NaN.
+    F32,
+    F64,
+    /// Little-endian, as the float that follows.
+    F32Le,
+    F64Le,
     /// A text after a length field in bytes, with a byte order mark and a terminator.
     Text(Encoding, Width),
     /// A text in exactly so many bytes, which must be from 4 to 1,048,576, and even in UTF-16: with a byte

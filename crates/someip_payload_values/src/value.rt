@@ -8,6 +8,10 @@ pub enum Value {
     Uint(u64),
     /// A number of a signed shape.
     Int(i64),
+    /// The bits of a float in 32 bits.
+    F32(u32),
+    /// The bits of a float in 64 bits.
+    F64(u64),
     /// A text, whatever its encoding is.
     Text(String),
     /// The elements of an array, or of a fixed number of elements.

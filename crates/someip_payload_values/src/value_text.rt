@@ -1,15 +1,18 @@
 //! Texts of values.
 
-ghost use Rattle.std.specs.Prelude.{◌≡◌, Some, ◌++◌, codes, pos, drop, IfSome, IfNone};
+ghost use Rattle.std.specs.Prelude.{◌≡◌, ◌++◌, ℕ, List, codes, pos, drop, if◌then◌else◌, string_bytes, IfSome, IfNone, OnOk};
 ghost use Rattle.std.specs.Option.{option_map};
-ghost use Rattle.std.specs.Fmt.{WritesOnOk, decimal, signed_decimal};
+ghost use Rattle.std.specs.Fmt.{WritesOnOk, signed_decimal};
 ghost use Rattle.someip_payload_values.specs.View.{form, forms, all_variants, all_members, data_of, data_of_all, slots_of, labels_of};
-ghost use Rattle.someip_payload_values.specs.ValueText.{escaped, quoted, listed, number_said, labels_in, element_in, members_in, variants_in, tagged_in, variant_of, first_form, first_member, or_bool, comma_before, name_text, data_text, element_texts, member_texts, slot_texts, value_text};
+ghost use Rattle.someip_payload_values.specs.ValueText.{escaped, quoted, number_said, labels_in, element_in, members_in, variants_in, tagged_in, variant_of, first_form, first_member, or_bool, comma_before, name_text};
+ghost use Rattle.someip_payload_values.specs.ToldText.{SaysData, SaysElements, SaysMembers, SaysSlots, Between, AfterNumber, WritesSome, value_text};
 
+use crate::float_text::{write_double, write_single};
 use crate::shape::{Member, Shape};
 use crate::value::Value;
-use std::fmt;
+use std::alloc::AllocError;
 use std::fmt::Display;
+use std::{fmt, mem};
 
 /// A value as its shape has it told: members with their names, and numbers by theirs.
 #[derive(Clone, Copy)]
@@ -20,17 +23,41 @@ pub struct Told<'a> {
     pub value: &'a Value,
 }
 
-impl Display for Told<'_> {
-    ghost output = { λ told. Some (data_text (form told.shape.now) (data_of told.value.now)) };
-
-    fn fmt<W: fmt::Write>(&self, f: &mut fmt::Formatter<W>) -> fmt::Result {
-        write_value(f, self.value, self.shape)
+impl Told<'_> {
+    /// Puts the text of the value after another text. A float is told by the shortest decimal that is read as
+    /// it again, as `20.5`, `1e-45` or `-0.0`; by `inf` or `-inf`; or by the bits of a NaN, as
+    /// `nan(7fc00001)`. An `Err` may leave a part of it.
+    pub fn put(&self, text: &mut String) -> Result<(), AllocError>
+        // What is put says the value: each float by a text that no other float of its width has.
+        ensures says { OnOk result ((said : List ℕ)
+            × SaysData (form self.now.shape.now) (data_of self.now.value.now) said
+            × (string_bytes text.new ≡ string_bytes text.old ++ said)) }
+    {
+        let alloc = *text.allocator();
+        let before = mem::replace(text, String::new(alloc));
+        let (after, written) = with_value(before, self);
+        *text = after;
+        match written {
+            Ok(()) => Ok(()),
+            Err(_) => Err(AllocError),
+        }
     }
 }
 
-/// The text without names.
+/// A text with that of a value behind it.
+fn with_value(text: String, told: &Told<'_>) -> (String, fmt::Result)
+    ensures { OnOk result.1 ((said : List ℕ)
+        × SaysData (form told.now.shape.now) (data_of told.now.value.now) said
+        × (string_bytes result.0 ≡ string_bytes text ++ said)) }
+{
+    let mut f = fmt::Formatter::new(text);
+    let written = write_value(&mut f, told.value, told.shape);
+    (f.into_inner(), written)
+}
+
+/// The text without names. That of a value with floats is not specified here: `Told::put` says what it says.
 impl Display for Value {
-    ghost output = { λ value. Some (value_text value) };
+    ghost output = { λ value. value_text value };
 
     fn fmt<W: fmt::Write>(&self, f: &mut fmt::Formatter<W>) -> fmt::Result {
         write_value(f, self, &Shape::Bool)
@@ -38,23 +65,24 @@ impl Display for Value {
 }
 
 #[cycle(value_text)]
-#[tactic(auto, unfolding(crate::specs::ValueText::data_text))]
 fn write_value<W: fmt::Write>(
     f: &mut fmt::Formatter<W>,
     value: &Value,
     shape: &Shape,
 ) -> fmt::Result
-    ensures { WritesOnOk W.write_str_gives f.old result
-        (data_text (form shape.now) (data_of value.now)) f.new }
+    ensures { WritesSome W.write_str_gives f.old result
+        (SaysData (form shape.now) (data_of value.now)) f.new }
 {
     match value {
-        Value::Bool(truth) => write!(f, "{truth}"),
+        Value::Bool(truth) => write_truth(f, *truth),
         Value::Uint(number) => write_unsigned(f, shape, *number),
         Value::Int(number) => write_signed(f, shape, *number),
+        Value::F32(bits) => write_single(f, *bits),
+        Value::F64(bits) => write_double(f, *bits),
         Value::Text(text) => write_quoted(f, text.as_str()),
         Value::List(values) => write_list(f, values, element_in(shape)),
         Value::Struct(values) => write_struct(f, values, members_in(shape)),
-        Value::Union(None) => write!(f, "none"),
+        Value::Union(None) => f.write_str("none"),
         Value::Union(Some((kind, value))) => write_choice(f, *kind, value, variants_in(shape)),
         Value::Tagged(slots) => write_tagged(f, slots, tagged_in(shape)),
     }
@@ -130,6 +158,12 @@ fn variant_of(variants: &[(u32, Shape)], kind: u32) -> Option<&Shape>
     None
 }
 
+fn write_truth<W: fmt::Write>(f: &mut fmt::Formatter<W>, truth: bool) -> fmt::Result
+    ensures { WritesOnOk W.write_str_gives f.old result (if truth then codes "true" else codes "false") f.new }
+{
+    write!(f, "{truth}")
+}
+
 /// The text of a value whose shape may be unknown.
 #[cycle(value_text)]
 fn write_some<W: fmt::Write>(
@@ -137,8 +171,8 @@ fn write_some<W: fmt::Write>(
     value: &Value,
     shape: Option<&Shape>,
 ) -> fmt::Result
-    ensures { WritesOnOk W.write_str_gives f.old result
-        (data_text (or_bool (option_map (λ s. form s.now) shape.entry)) (data_of value.now)) f.new }
+    ensures { WritesSome W.write_str_gives f.old result
+        (SaysData (or_bool (option_map (λ s. form s.now) shape.entry)) (data_of value.now)) f.new }
 {
     match shape {
         Some(shape) => write_value(f, value, shape),
@@ -153,8 +187,8 @@ fn write_list<W: fmt::Write>(
     values: &[Value],
     element: Option<&Shape>,
 ) -> fmt::Result
-    ensures { WritesOnOk W.write_str_gives f.old result
-        (codes "[" ++ (listed (element_texts (or_bool (option_map (λ s. form s.now) element.entry)) (data_of_all values.now)) ++ codes "]")) f.new }
+    ensures { WritesSome W.write_str_gives f.old result (Between (codes "[") (codes "]")
+        (SaysElements (or_bool (option_map (λ s. form s.now) element.entry)) (data_of_all values.now))) f.new }
 {
     f.write_str("[")?;
     write_elements(f, values, element)?;
@@ -167,8 +201,8 @@ fn write_elements<W: fmt::Write>(
     values: &[Value],
     element: Option<&Shape>,
 ) -> fmt::Result
-    ensures { WritesOnOk W.write_str_gives f.old result
-        (listed (element_texts (or_bool (option_map (λ s. form s.now) element.entry)) (data_of_all values.now))) f.new }
+    ensures { WritesSome W.write_str_gives f.old result
+        (SaysElements (or_bool (option_map (λ s. form s.now) element.entry)) (data_of_all values.now)) f.new }
 {
     for i in 0..values.len() {
         write_comma(f, i)?;
@@ -184,8 +218,8 @@ fn write_struct<W: fmt::Write>(
     values: &[Value],
     shapes: &[Shape],
 ) -> fmt::Result
-    ensures { WritesOnOk W.write_str_gives f.old result
-        (codes "(" ++ (listed (member_texts (forms shapes.now) (data_of_all values.now)) ++ codes ")")) f.new }
+    ensures { WritesSome W.write_str_gives f.old result
+        (Between (codes "(") (codes ")") (SaysMembers (forms shapes.now) (data_of_all values.now))) f.new }
 {
     f.write_str("(")?;
     write_members(f, values, shapes)?;
@@ -198,8 +232,8 @@ fn write_members<W: fmt::Write>(
     values: &[Value],
     shapes: &[Shape],
 ) -> fmt::Result
-    ensures { WritesOnOk W.write_str_gives f.old result
-        (listed (member_texts (forms shapes.now) (data_of_all values.now))) f.new }
+    ensures { WritesSome W.write_str_gives f.old result
+        (SaysMembers (forms shapes.now) (data_of_all values.now)) f.new }
 {
     for i in 0..values.len() {
         write_comma(f, i)?;
@@ -218,10 +252,11 @@ fn write_choice<W: fmt::Write>(
     value: &Value,
     variants: &[(u32, Shape)],
 ) -> fmt::Result
-    ensures { WritesOnOk W.write_str_gives f.old result
-        (decimal kind ++ (codes ":" ++ data_text (variant_of kind (all_variants variants.now)) (data_of value.now))) f.new }
+    ensures { WritesSome W.write_str_gives f.old result
+        (AfterNumber kind (SaysData (variant_of kind (all_variants variants.now)) (data_of value.now))) f.new }
 {
-    write!(f, "{kind}:")?;
+    f.write_str(itoa::Buffer::new().format(kind))?;
+    f.write_str(":")?;
     write_some(f, value, variant_of(variants, kind))
 }
 
@@ -232,8 +267,8 @@ fn write_tagged<W: fmt::Write>(
     slots: &[Option<Value>],
     members: &[Member],
 ) -> fmt::Result
-    ensures { WritesOnOk W.write_str_gives f.old result
-        (codes "{" ++ (listed (slot_texts (all_members members.now) (slots_of slots.now)) ++ codes "}")) f.new }
+    ensures { WritesSome W.write_str_gives f.old result
+        (Between (codes "{") (codes "}") (SaysSlots (all_members members.now) (slots_of slots.now))) f.new }
 {
     f.write_str("{")?;
     write_slots(f, slots, members)?;
@@ -247,8 +282,8 @@ fn write_slots<W: fmt::Write>(
     slots: &[Option<Value>],
     members: &[Member],
 ) -> fmt::Result
-    ensures { WritesOnOk W.write_str_gives f.old result
-        (listed (slot_texts (all_members members.now) (slots_of slots.now))) f.new }
+    ensures { WritesSome W.write_str_gives f.old result
+        (SaysSlots (all_members members.now) (slots_of slots.now)) f.new }
 {
     for i in 0..slots.len() {
         write_comma(f, i)?;

@@ -4,7 +4,7 @@ ghost use Rattle.std.specs.Prelude.{◌≡◌, ◌+◌, ◌<◌, ◌++◌, ◌==
 ghost use Rattle.someip_payload_values.specs.declared.error.PayloadError.TheVariants.{NotOfShape, UnknownVariant};
 ghost use Rattle.someip_payload_values.specs.View.{form, forms, all_variants, all_members, data_of, data_of_all, data_of_choice, one_member, slot_of, slots_of};
 ghost use Rattle.someip_payload_values.specs.Data.{union, chosen, tagged, slotted, count};
-ghost use Rattle.someip_payload_values.specs.declared.number.Size.TheVariants.{S16};
+ghost use Rattle.someip_payload_values.specs.declared.number.Size.TheVariants.{S16, S32};
 ghost use Rattle.someip_payload_values.specs.Numbers.{limit_of, number, size_of};
 ghost use Rattle.someip_payload_values.specs.Tags.{tag_number};
 ghost use Rattle.someip_payload_values.specs.Writing.{Appends, Adds, number_text, signed_text, body_text, text_body, has_zero, padded_text, each_text, array_text, fixed_text, framed_text, typed_text, chosen_text, count_forms, text_of, members_text, variant_text, slots_text, member_text, encoded, IsRefusal};
@@ -57,7 +57,7 @@ fn encode_whole(
 }
 
 #[cycle(put)]
-#[tactic(auto, unfolding(crate::specs::Writing::text_of))]
+#[tactic(auto, unfolding(crate::specs::Writing::text_of, crate::specs::Writing::real_text))]
 fn put(alloc: Global, shape: &Shape, value: &Value, out: &mut Vec<u8>) -> Result<(), PayloadError>
     ensures { Adds out.old.items out.new.items result (text_of (form shape.now) (data_of value.now)) }
 {
@@ -77,6 +77,10 @@ fn put(alloc: Global, shape: &Shape, value: &Value, out: &mut Vec<u8>) -> Result
         (Shape::I16Le, Value::Int(z)) => put_signed(Order::Little, Size::S16, *z, out),
         (Shape::I32Le, Value::Int(z)) => put_signed(Order::Little, Size::S32, *z, out),
         (Shape::I64Le, Value::Int(z)) => put_signed(Order::Little, Size::S64, *z, out),
+        (Shape::F32, Value::F32(bits)) => put_single(Order::Big, *bits, out),
+        (Shape::F64, Value::F64(bits)) => put_unsigned(Order::Big, Size::S64, *bits, out),
+        (Shape::F32Le, Value::F32(bits)) => put_single(Order::Little, *bits, out),
+        (Shape::F64Le, Value::F64(bits)) => put_unsigned(Order::Little, Size::S64, *bits, out),
         (Shape::Named(_, shape), _) => put(alloc, shape, value, out),
         (Shape::Enum(shape, _), _) => put(alloc, shape, value, out),
         (Shape::FixedText(encoding, len), Value::Text(text)) => {
@@ -361,6 +365,13 @@ fn put_unsigned(order: Order, size: Size, n: u64, out: &mut Vec<u8>) -> Result<(
     }
     put_in(order, size, n, out)?;
     Ok(())
+}
+
+/// The bits of a float in 32 bits.
+fn put_single(order: Order, bits: u32, out: &mut Vec<u8>) -> Result<(), PayloadError>
+    ensures { Adds out.old.items out.new.items result (number_text order S32 bits) }
+{
+    put_unsigned(order, Size::S32, u64::from(bits), out)
 }
 
 #[tactic(auto, unfolding(crate::specs::Writing::signed_text))]

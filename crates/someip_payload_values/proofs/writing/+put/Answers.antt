@@ -2,13 +2,14 @@ use Rattle.std.proofs.Common.{rules, ◌≡◌, None, Some, true, string_bytes, 
 use Rattle.std.proofs.lemmas.Result.{err_from_is_err_and}
 use Rattle.std.specs.Str.{is_utf8}
 use Rattle.std.proofs.lemmas.Str.{IsUtf8-string_bytes, is_utf8-from_IsUtf8}
-use Rattle.someip_payload_values.specs.Data.{u8, u16, u32, u64, i8, i16, i32, i64, unsigned, signed, padded, array, fixed, «struct», union, tagged, string, uint, int, phrase, list, tuple, slotted}
+use Rattle.someip_payload_values.specs.Data.{u8, u16, u32, u64, i8, i16, i32, i64, unsigned, signed, float, padded, array, fixed, «struct», union, tagged, string, uint, int, real, phrase, list, tuple, slotted}
 use Rattle.someip_payload_values.specs.declared.shape.Width.TheVariants.{W32}
-use Rattle.someip_payload_values.specs.declared.number.Order.TheVariants.{Little}
+use Rattle.someip_payload_values.specs.declared.number.Order.TheVariants.{Big, Little}
 use Rattle.someip_payload_values.specs.declared.number.Size.TheVariants.{S16, S32, S64}
+use Rattle.someip_payload_values.specs.Floats.{single, double}
 use Rattle.someip_payload_values.specs.View.{form, forms, all_variants, all_members, data_of, data_of_all, data_of_choice, slots_of}
-use Rattle.someip_payload_values.proofs.Shapes.{form-U8, form-U16, form-U32, form-U64, form-I8, form-I16, form-I32, form-I64, form-U16Le, form-U32Le, form-U64Le, form-I16Le, form-I32Le, form-I64Le, form-Text, form-FixedText, form-FramedFixed, form-SizedUnion, form-Array, form-Fixed, form-Struct, form-Union, form-Tagged, data_of-Uint, data_of-Int, data_of-Text, data_of-List, data_of-Struct, data_of-Union, data_of-Tagged}
-use Rattle.someip_payload_values.specs.Writing.{text_of, body_text, slots_text}
+use Rattle.someip_payload_values.proofs.Shapes.{form-U8, form-U16, form-U32, form-U64, form-I8, form-I16, form-I32, form-I64, form-U16Le, form-U32Le, form-U64Le, form-I16Le, form-I32Le, form-I64Le, form-F32, form-F64, form-F32Le, form-F64Le, form-Text, form-FixedText, form-FramedFixed, form-SizedUnion, form-Array, form-Fixed, form-Struct, form-Union, form-Tagged, data_of-Uint, data_of-Int, data_of-F32, data_of-F64, data_of-Text, data_of-List, data_of-Struct, data_of-Union, data_of-Tagged}
+use Rattle.someip_payload_values.specs.Writing.{text_of, real_text, body_text, slots_text}
 use Rattle.someip_payload_values.specs.Steps.{◌>>=◌}
 use Rattle.someip_payload_values.proofs.StepLemmas.{fails_too}
 use Rattle.someip_payload_values.proofs.Writes.{each_go_on, each_fail, each_done, members_go_on, members_fail, members_done, variant_hit, variant_miss, variant_none, slots_go_on, slots_fail, slots_done, tagged_is}
@@ -269,4 +270,36 @@ put-returns-in-SizedUnion-Union t c =
     let x = c.in-SizedUnion-Union in
     let f : form c.args.shape.now ≡ union x.width x.field (all_variants x.variants.items) = ap form x.is-0 ∙ form-SizedUnion x.width x.field x.variants in
     let d : data_of c.args.value.now ≡ data_of_choice x.choice = ap data_of x.is-1 ∙ data_of-Union x.choice in
+    rw (f, d) (search rules)
+
+pub put-returns-in-F32-F32 : goal.put-returns-in-F32-F32
+unfolding text_of real_text
+put-returns-in-F32-F32 t c =
+    let x = c.in-F32-F32 in
+    let f : form c.args.shape.now ≡ float Big single = ap form x.is-0 ∙ form-F32 in
+    let d : data_of c.args.value.now ≡ real single x.bits = ap data_of x.is-1 ∙ data_of-F32 x.bits in
+    rw (f, d) (search rules)
+
+pub put-returns-in-F64-F64 : goal.put-returns-in-F64-F64
+unfolding text_of real_text
+put-returns-in-F64-F64 t c =
+    let x = c.in-F64-F64 in
+    let f : form c.args.shape.now ≡ float Big double = ap form x.is-0 ∙ form-F64 in
+    let d : data_of c.args.value.now ≡ real double x.bits = ap data_of x.is-1 ∙ data_of-F64 x.bits in
+    rw (f, d) (search rules)
+
+pub put-returns-in-F32Le-F32 : goal.put-returns-in-F32Le-F32
+unfolding text_of real_text
+put-returns-in-F32Le-F32 t c =
+    let x = c.in-F32Le-F32 in
+    let f : form c.args.shape.now ≡ float Little single = ap form x.is-0 ∙ form-F32Le in
+    let d : data_of c.args.value.now ≡ real single x.bits = ap data_of x.is-1 ∙ data_of-F32 x.bits in
+    rw (f, d) (search rules)
+
+pub put-returns-in-F64Le-F64 : goal.put-returns-in-F64Le-F64
+unfolding text_of real_text
+put-returns-in-F64Le-F64 t c =
+    let x = c.in-F64Le-F64 in
+    let f : form c.args.shape.now ≡ float Little double = ap form x.is-0 ∙ form-F64Le in
+    let d : data_of c.args.value.now ≡ real double x.bits = ap data_of x.is-1 ∙ data_of-F64 x.bits in
     rw (f, d) (search rules)
