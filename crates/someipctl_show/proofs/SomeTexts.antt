@@ -6,21 +6,17 @@ use Rattle.someip_wire.specs.Reading.{items_of}
 use Rattle.someip_payload_values.specs.declared.error.PayloadError.{PayloadError}
 use Rattle.someip_payload_values.specs.Data.{Form, Data}
 use Rattle.someip_payload_values.specs.Names.{fault_name, fault_place}
-use Rattle.someip_payload_values.specs.ValueText.{data_text}
+use Rattle.someip_payload_values.proofs.ToldTexts.{some_says}
 use Rattle.someip_payload_codec.specs.Reading.{decoded}
 use Rattle.someipctl_io.specs.Items.{item_len, item_lines}
 use Rattle.someipctl_io.specs.Lines.{empty_line}
-use Rattle.someipctl_show.specs.TextKinds.{SaysValue}
 use Rattle.someipctl_show.specs.types.Types.{TypedMessageValue, TypesValue, table_for}
 use Rattle.someipctl_show.specs.types.ValueLine.{IsDecodedLine, IsLineBy, IsValueLine, fault_line, read_line}
 use Rattle.someipctl_show.specs.ShownText.{AreLines, AreTexts, IsDatagramText, IsItemText, IsValueOfItem}
 
-some_telling : (f : Form) (d : Data) → (told : List ℕ) × SaysValue f d told
-some_telling f d = (data_text f d, refl)
-
 some_decoded : (k place : ℕ) (name : Option (List ℕ)) (f : Form) (all : ℕ) (read : Result (Data × ℕ) PayloadError) → (line : List ℕ) × IsDecodedLine k place name f all read line
 some_decoded k place name f all (Ok (d, used)) =
-    let t = some_telling f d in
+    let t = some_says f d in
     (read_line k name t.0 used all, (t.0, t.1, refl))
 some_decoded k place name f all (Err fault) = (fault_line k (fault_name fault) (place + 16 + fault_place fault), refl)
 

@@ -5,6 +5,7 @@ use Rattle.someip_payload_values.specs.declared.Value.{Value}
 use Rattle.someip_payload_values.specs.declared.PayloadError.{PayloadError}
 use Rattle.someip_payload_values.specs.declared.PayloadError.TheVariants as faults
 use Rattle.someip_payload_values.specs.Data.{Form}
+use Rattle.someip_payload_values.specs.ToldText.{SaysData}
 use Rattle.someip_payload_values.specs.View.{data_of}
 use Rattle.someip_payload_codec.specs.Grammar.{Reads}
 use Rattle.someip_payload_values.specs.Check.{checked, depth}
@@ -22,7 +23,6 @@ use Rattle.someip_payload.specs.declared.ShapeTextError.TheVariants as shapes
 use Rattle.someipctl_show.specs.declared.payload.PayloadRefusal.{PayloadRefusal}
 use Rattle.someipctl_show.specs.declared.payload.PayloadRefusal.TheVariants.{BadShape, BadHex}
 use Rattle.someipctl_show.specs.Capture.{is_dash}
-use Rattle.someipctl_show.specs.TextKinds.{SaysValue}
 
 -- the bytes that an argument says: none for `-`, else those of its hex digits, of which there is one at least
 abbrev pub argument_bytes : List ℕ → Option (List ℕ)
@@ -51,7 +51,7 @@ ReadsFront shape bytes value n = (checked shape ≡ Ok tt) × (n ≤ length byte
 
 -- what was found of the bytes by the shape and is printed: the value of a front of them, or their fault
 abbrev pub IsTold : Form → List ℕ → List ℕ → Outcome → Type 0
-IsTold shape bytes text Done = (value : Value) × (n : ℕ) × ReadsFront shape bytes value n × (told : List ℕ) × SaysValue shape (data_of value) told × (text ≡ value_lines told n (length bytes))
+IsTold shape bytes text Done = (value : Value) × (n : ℕ) × ReadsFront shape bytes value n × (told : List ℕ) × SaysData shape (data_of value) told × (text ≡ value_lines told n (length bytes))
 IsTold shape bytes text FaultShown = (fault : PayloadError) × (fault ≢ faults.OutOfMemory) × IsFaultOf shape bytes fault × (text ≡ fault_text fault)
 
 -- what the two arguments say, and what is printed of it

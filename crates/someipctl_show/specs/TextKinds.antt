@@ -1,12 +1,6 @@
 -- Texts of a kind, one of which is printed: what says a value in a text may do so in more than one way.
 use Rattle.std.specs.Prelude.{ℕ, ◌≡◌, List, ◌++◌, Option}
-use Rattle.someip_payload_values.specs.Data.{Form, Data}
-use Rattle.someip_payload_values.specs.ValueText.{data_text}
 use Rattle.someipctl_io.specs.Sending.{Sends, Stops}
-
--- the text says the value as its form has it
-abbrev pub SaysValue : Form → Data → List ℕ → Type 0
-SaysValue f d text = text ≡ data_text f d
 
 -- a text of one kind, and then one of another
 abbrev pub Joined : (List ℕ → Type 0) → (List ℕ → Type 0) → List ℕ → Type 0

@@ -10,7 +10,8 @@ ghost use Rattle.someip_wire.specs.Datagram.{Datagram, items};
 ghost use Rattle.someip_payload_values.specs.Data.{bool};
 ghost use Rattle.someip_texts.specs.Lines.{is_left_out};
 ghost use Rattle.someipctl_show.specs.types.Types.{TypesValue};
-ghost use Rattle.someipctl_show.specs.ShownText.{AreLines, AreTexts};
+ghost use Rattle.someipctl_show.specs.ShownText.{AreLines, AreTexts, no_types};
+ghost use Rattle.someipctl_show.specs.types.ValueLine.{TellNoFloats};
 ghost use Rattle.someipctl_show.specs.TextKinds.{Joined};
 ghost use Rattle.someipctl_show.specs.VectorLines.{IsBadBehind, Said, Says, asks, expects};
 ghost use Rattle.someipctl_show.specs.VectorLines.{of_datagram, of_payload};
@@ -60,8 +61,11 @@ pub fn messages_begin_behind_others()
         × (drop (length (flat_map spelling front) + 16) bytes ≡ message.payload ++ rest) }
 {}
 
-/// What is printed of datagrams by types files is one text: what says a value here says it in one way.
+/// What is printed of datagrams is one text, but for floats: a float may be told by each decimal that is
+/// read as it.
 pub fn datagrams_have_one_text()
-    ensures { (types : TypesValue) (k : ℕ) (datagrams : List (List ℕ)) (a b : List ℕ)
-        → AreTexts types k datagrams a → AreTexts types k datagrams b → a ≡ b }
+    ensures one { (types : TypesValue) → TellNoFloats types → (k : ℕ) (datagrams : List (List ℕ))
+        (a b : List ℕ) → AreTexts types k datagrams a → AreTexts types k datagrams b → a ≡ b }
+    // Without a types file nothing is told of floats.
+    ensures none { TellNoFloats no_types }
 {}

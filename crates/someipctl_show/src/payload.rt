@@ -76,7 +76,9 @@ pub fn read_text(
                 shape,
                 value: &value,
             };
-            writeln!(text, "value {told}")?;
+            text.push_str("value ")?;
+            told.put(&mut text)?;
+            text.push_str("\n")?;
             writeln!(text, "used {used} of {all}")?;
             Ok((text, Outcome::Done))
         }

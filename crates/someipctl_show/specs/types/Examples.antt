@@ -4,7 +4,9 @@ use Rattle.toml.specs.Data.{string, integer, Data, array, table, no_items, item,
 use Rattle.someip_wire.specs.declared.header.MessageType.{MessageType}
 use Rattle.someip_wire.specs.declared.header.MessageType.TheVariants.{Notification}
 use Rattle.someip_wire.specs.Spelling.{MessageValue}
-use Rattle.someip_payload_values.specs.Data.{«struct», named, enumerated, u8, u16, no_forms, form_then}
+use Rattle.someip_payload_values.specs.Data.{«struct», named, enumerated, float, u8, u16, no_forms, form_then}
+use Rattle.someip_payload_values.specs.declared.number.Order.TheVariants.{Big}
+use Rattle.someip_payload_values.specs.Floats.{single}
 use Rattle.someipctl_show.specs.types.Types.{TypedMessageValue, TypesValue}
 use Rattle.someipctl_show.specs.types.ValueLine.{IsValueLine}
 
@@ -66,6 +68,10 @@ abbrev pub speed_text : List ℕ → List ℕ
 speed_text more =
     line (codes "[[message]]") ++ line (codes "service = 0x1234") ++ line (codes "method = 0x8001") ++ line (codes "type = \"NOTIFICATION\"")
     ++ line (codes "shape = \"struct(u16,u8)\"") ++ line (codes "name = \"speed\"") ++ more
+
+-- events are a float in 32 bits, without a name
+abbrev pub float_types : TypesValue
+float_types = record { service = 0x1234; method = 0x8001; kind = Notification; form = float Big single; name = None } ∷ []
 
 -- the message has this line of its value, and no other
 abbrev pub IsOnlyLine : TypesValue → ℕ → ℕ → MessageValue → List ℕ → Type 0

@@ -13,8 +13,9 @@ use Rattle.someip_payload_values.specs.declared.shape.Width.{Width}
 use Rattle.someip_payload_values.specs.declared.shape.Width.TheVariants.{W8, W16, W32}
 use Rattle.someip_payload_values.specs.declared.shape.Encoding.{Encoding}
 use Rattle.someip_payload_values.specs.declared.shape.Encoding.TheVariants.{Utf8, Utf16}
+use Rattle.someip_payload_values.specs.Floats.{Precision, single, double}
 use Rattle.someip_payload_values.specs.Numbers.{bit_of}
-use Rattle.someip_payload_values.specs.Data.{Form, bool, unsigned, signed, string, padded, array, fixed, «struct», union, tagged, named, enumerated, Forms, no_forms, form_then, Variants, no_variants, variant, Members, no_members, member_then}
+use Rattle.someip_payload_values.specs.Data.{Form, bool, unsigned, signed, float, string, padded, array, fixed, «struct», union, tagged, named, enumerated, Forms, no_forms, form_then, Variants, no_variants, variant, Members, no_members, member_then}
 use Rattle.someipctl_show.specs.types.Types.{TypedMessageValue, TypesValue}
 use Rattle.std.specs.Prelude.{true, false}
 
@@ -45,6 +46,17 @@ numbered_order n = if n == 0 then Big else Little
 pub same_order : (order : Order) → numbered_order (order_number order) ≡ order
 same_order Big = refl
 same_order Little = refl
+
+abbrev pub precision_number : Precision → ℕ
+precision_number single = 0
+precision_number double = 1
+
+abbrev pub numbered_precision : ℕ → Precision
+numbered_precision n = if n == 0 then single else double
+
+pub same_precision : (p : Precision) → numbered_precision (precision_number p) ≡ p
+same_precision single = refl
+same_precision double = refl
 
 abbrev pub width_number : Width → ℕ
 width_number W8 = 0
@@ -151,6 +163,7 @@ abbrev mutual
   form_tree (padded encoding n) = node 9 (gnum (encoding_number encoding)) (gnum n) gnil
   form_tree (named n f) = node 10 (bytes_tree n) gnil (form_tree f)
   form_tree (enumerated f labels) = node 11 (labels_tree labels) gnil (form_tree f)
+  form_tree (float order p) = node 12 (gnum (precision_number p)) (gnum (order_number order)) gnil
 
   pub forms_tree : Forms → Gv
   forms_tree no_forms = gnil
@@ -178,7 +191,8 @@ abbrev mutual
       else if tag == 8 then tagged (numbered_width (num a)) (members_of_tree c)
       else if tag == 9 then padded (numbered_encoding (num a)) (num b)
       else if tag == 10 then named (bytes_of_tree a) (form_of_tree c)
-      else enumerated (form_of_tree c) (labels_of_tree a)
+      else if tag == 11 then enumerated (form_of_tree c) (labels_of_tree a)
+      else float (numbered_order (num b)) (numbered_precision (num a))
   form_of_tree _ = bool
 
   pub forms_of_tree : Gv → Forms
@@ -198,6 +212,7 @@ mutual
   same_form bool = refl
   same_form (unsigned order size) = both unsigned (same_order order) (same_size size)
   same_form (signed order size) = both signed (same_order order) (same_size size)
+  same_form (float order p) = both float (same_order order) (same_precision p)
   same_form (padded encoding n) = ap (λ e. padded e n) (same_encoding encoding)
   same_form (named n f) = both named (same_bytes n) (same_form f)
   same_form (enumerated f labels) = both enumerated (same_form f) (same_labels labels)

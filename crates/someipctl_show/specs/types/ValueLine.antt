@@ -1,11 +1,12 @@
 -- The line of the value of a message.
 use Rattle.std.specs.Prelude.{ℕ, ◌≡◌, ◌+◌, Bool, true, false, nat_lt, if◌then◌else◌, List, [], ◌++◌, length, codes, decimal, Option, Some, None, Result, Ok, Err}
+use Rattle.someip_wire.specs.declared.header.Header.{Header}
 use Rattle.someip_wire.specs.Spelling.{MessageValue}
 use Rattle.someip_payload_values.specs.declared.error.PayloadError.{PayloadError}
 use Rattle.someip_payload_values.specs.Data.{Form, Data}
+use Rattle.someip_payload_values.specs.ToldText.{SaysData, has_float}
 use Rattle.someip_payload_values.specs.Names.{fault_name, fault_place}
 use Rattle.someip_payload_codec.specs.Reading.{decoded}
-use Rattle.someipctl_show.specs.TextKinds.{SaysValue}
 use Rattle.someipctl_show.specs.types.Types.{TypedMessageValue, TypesValue, table_for}
 
 -- a name in front of a text, if there is one
@@ -27,7 +28,7 @@ fault_line k name place = decimal k ++ codes " value fault " ++ name ++ codes " 
 
 -- a line of a value of a form that takes so many of all bytes
 abbrev pub IsReadLine : ℕ → Option (List ℕ) → Form → Data → ℕ → ℕ → List ℕ → Type 0
-IsReadLine k name f d used all line = (told : List ℕ) × SaysValue f d told × (line ≡ read_line k name told used all)
+IsReadLine k name f d used all line = (told : List ℕ) × SaysData f d told × (line ≡ read_line k name told used all)
 
 -- a line of what is read of a payload, or the line of its first fault; a header of 16 bytes stands in front of the payload,
 -- at the place
@@ -59,3 +60,7 @@ IsValueLine types k place m line = IsLineBy (table_for types m.header) k place m
 -- a table names the message, and its payload has a fault
 abbrev pub has_value_fault : TypesValue → MessageValue → Bool
 has_value_fault types m = fault_by (table_for types m.header) m.payload
+
+-- by no table is a payload read as a value with a float in it
+abbrev pub TellNoFloats : TypesValue → Type 0
+TellNoFloats types = (h : Header) (t : TypedMessageValue) (payload : List ℕ) (d : Data) (used : ℕ) → table_for types h ≡ Some t → decoded t.form payload ≡ Ok (d, used) → has_float d ≡ false

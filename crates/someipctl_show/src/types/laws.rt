@@ -3,13 +3,13 @@
 ghost use Rattle.std.specs.Prelude.{◌≡◌, true, false, codes, [], ◌∷◌, Some, None};
 ghost use Rattle.toml.specs.Data.{Data};
 ghost use Rattle.someip_wire.specs.declared.header.MessageType.TheVariants.{Notification, Request, TpNotification};
-ghost use Rattle.someipctl_show.specs.types.Examples.{IsOnlyLine, speed_of, speed_types, named_types, message_with, event_with, keyed, file_with, speed_text, line};
+ghost use Rattle.someipctl_show.specs.types.Examples.{IsOnlyLine, float_types, speed_of, speed_types, named_types, message_with, event_with, keyed, file_with, speed_text, line};
 ghost use Rattle.someipctl_show.specs.types.GoodTypes.{has_clash, is_label};
 ghost use Rattle.someipctl_show.specs.types.Keys.{kind_of_word};
 ghost use Rattle.someipctl_show.specs.types.Says.{TextSays, tree_of};
 ghost use Rattle.someipctl_show.specs.types.Tables.{has_unknown_key};
 ghost use Rattle.someipctl_show.specs.types.Types.{TypesValue};
-ghost use Rattle.someipctl_show.specs.types.ValueLine.{has_value_fault};
+ghost use Rattle.someipctl_show.specs.types.ValueLine.{IsValueLine, has_value_fault};
 
 /// The line of an event of datagram 3, in which it begins at the place 19: its value, where that takes
 /// all bytes of the payload or some, and a fault, whose place counts in the datagram. A member stands
@@ -23,6 +23,12 @@ pub fn what_lines_say()
     ensures unnamed { IsOnlyLine named_types 3 19 (event_with (0 ∷ 42 ∷ 4 ∷ [])) (codes "3 value speed (speed=42,gear=4)\n") }
     ensures good { has_value_fault speed_types (event_with (0 ∷ 42 ∷ 7 ∷ 9 ∷ [])) ≡ false }
     ensures bad { has_value_fault speed_types (event_with (0 ∷ 42 ∷ [])) ≡ true }
+{}
+
+/// A float is told by a decimal that is read as its bits again, and a NaN by its bits in hex alone.
+pub fn what_floats_say()
+    ensures number { IsValueLine float_types 3 19 (event_with (0x41 ∷ 0xa4 ∷ 0 ∷ 0 ∷ [])) (codes "3 value 20.5\n") }
+    ensures nan { IsOnlyLine float_types 3 19 (event_with (0x7f ∷ 0xc0 ∷ 0 ∷ 1 ∷ [])) (codes "3 value nan(7fc00001)\n") }
 {}
 
 /// A message has no line where no table has its type, or its Message ID: a segment has none.

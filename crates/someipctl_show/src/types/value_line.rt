@@ -67,7 +67,7 @@ fn put_read_line(
     put_number(text, k)?;
     text.push_str(" value ")?;
     put_name(text, name)?;
-    write!(text, "{told}")?;
+    told.put(text)?;
     put_used(text, used, all)?;
     text.push_str("\n")?;
     Ok(())

@@ -12,9 +12,9 @@ six_added old a b c d e f t1 t2 t3 t4 t5 t6 e1 e2 e3 e4 e5 e6 = rw (e6, e5, e4, 
 
 pub returns : goal.returns
 returns c =
-    let told = data_text (form c.args.told.now.shape.now) (data_of c.args.told.now.value.now) in (
-      read_line c.args.k (option_map (λ n. string_bytes n.now) c.args.name) told c.args.used c.args.all,
-      (told, refl, refl),
-      six_added _ _ _ _ _ _ _ _ _ _ _ _ _ c.in_ok-put_number.ensures c.in_ok-push_str.ensures.bytes c.in_ok-put_name.ensures c.in_ok-write.ensures.bytes
+    let told = c.in_ok-put.ensures.says in (
+      read_line c.args.k (option_map (λ n. string_bytes n.now) c.args.name) told.0 c.args.used c.args.all,
+      (told.0, told.1, refl),
+      six_added _ _ _ _ _ _ _ _ _ _ _ _ _ c.in_ok-put_number.ensures c.in_ok-push_str.ensures.bytes c.in_ok-put_name.ensures told.2
           c.in_ok-put_used.ensures c.in_ok-push_str-2.ensures.bytes,
     )
