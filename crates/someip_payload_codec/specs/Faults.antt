@@ -12,8 +12,9 @@ use Rattle.someip_payload_values.specs.declared.shape.Encoding.{Encoding}
 use Rattle.someip_payload_values.specs.declared.tag.WireType.{WireType}
 use Rattle.someip_payload_values.specs.declared.tag.WireType.TheVariants.{Basic, OwnLength, Length}
 use Rattle.someip_payload_values.specs.Check.{checked}
-use Rattle.someip_payload_values.specs.Data.{Form, bool, unsigned, signed, string, padded, array, fixed, «struct», union, tagged, named, enumerated, Forms, no_forms, form_then, Variants, no_variants, variant, Members, member_then, Data, Items, Slots, present, absent, count}
+use Rattle.someip_payload_values.specs.Data.{Form, bool, unsigned, signed, float, string, padded, array, fixed, «struct», union, tagged, named, enumerated, Forms, no_forms, form_then, Variants, no_variants, variant, Members, member_then, Data, Items, Slots, present, absent, count}
 use Rattle.someip_payload_codec.specs.View.{View}
+use Rattle.someip_payload_values.specs.Floats.{bits_size}
 use Rattle.someip_payload_values.specs.Numbers.{width_of, limit_of, size_of, field_len, number, framed}
 use Rattle.someip_payload_values.specs.Tags.{TaggedItem, items_bytes, tag_number, own_width, has_wire_type, width_in}
 use Rattle.someip_payload_codec.specs.Grammar.{Picks, Each, Reads, SkipsOthers, ReadsItems, has_required}
@@ -108,6 +109,7 @@ unfoldable mutual
   FaultBy width bool e w = FaultInNumber 1 w e
   FaultBy width (unsigned order size) e w = FaultInSize size w e
   FaultBy width (signed order size) e w = FaultInSize size w e
+  FaultBy width (float order p) e w = FaultInSize (bits_size p) w e
   FaultBy width (padded encoding n) e w = FaultInPadded encoding n e w
   FaultBy width (string encoding own) e w = FaultInBody width (FaultInText encoding w.place e) w e
   FaultBy width (array own most element) e w = FaultInBody width (FaultInItems (Reads element) (FaultBy (own_width element) element e) most e) w e

@@ -5,7 +5,8 @@ use Rattle.std.specs.Int.{cast_unsigned}
 use Rattle.std.specs.Int.RustNames.{FitsSigned}
 use Rattle.someip_payload_values.specs.declared.number.Size.TheVariants.{S8}
 use Rattle.someip_payload_values.specs.declared.shape.Width.{Width}
-use Rattle.someip_payload_values.specs.Data.{Form, bool, unsigned, signed, string, padded, array, fixed, «struct», union, tagged, named, enumerated, Forms, no_forms, form_then, Variants, no_variants, variant, Members, no_members, member_then, Data, truth, uint, int, phrase, list, tuple, nothing, chosen, slotted, Items, no_items, item, Slots, no_slots, present, absent, count}
+use Rattle.someip_payload_values.specs.Data.{Form, bool, unsigned, signed, float, string, padded, array, fixed, «struct», union, tagged, named, enumerated, Forms, no_forms, form_then, Variants, no_variants, variant, Members, no_members, member_then, Data, truth, uint, int, real, phrase, list, tuple, nothing, chosen, slotted, Items, no_items, item, Slots, no_slots, present, absent, count}
+use Rattle.someip_payload_values.specs.Floats.{bits_size}
 use Rattle.someip_payload_values.specs.Numbers.{width_of, limit_of, size_of, number, number_in, typed, is_odd, Framed, Typed, Begins}
 use Rattle.someip_payload_values.specs.Tags.{TaggedItem, items_bytes, with_id, Skips, own_width, has_wire_type, width_in}
 use Rattle.someip_payload_codec.specs.Texts.{SpellsText, SpellsPadded}
@@ -47,6 +48,7 @@ unfoldable mutual
   ReadsBy width bool (truth b) bytes = (n : ℕ) × (n < 2 ^ 8) × (bytes ≡ number S8 n) × (b ≡ is_odd n)
   ReadsBy width (unsigned order size) (uint n) bytes = (n < limit_of size) × (bytes ≡ number_in order size n)
   ReadsBy width (signed order size) (int z) bytes = FitsSigned (width_of size) z × (bytes ≡ number_in order size (cast_unsigned (width_of size) z))
+  ReadsBy width (float order p) (real own bits) bytes = (p ≡ own) × (bits < limit_of (bits_size p)) × (bytes ≡ number_in order (bits_size p) bits)
   ReadsBy width (string encoding own) (phrase s) bytes = Framed width (SpellsText encoding s) bytes
   ReadsBy width (padded encoding n) (phrase s) bytes = (length bytes ≡ n) × SpellsPadded encoding s bytes
   ReadsBy width (array own max element) (list ds) bytes = (count ds ≤ max) × Framed width (Each (ReadsBy (own_width element) element) ds) bytes

@@ -18,11 +18,12 @@ use Rattle.someip_payload_values.specs.declared.shape.Encoding.{Encoding}
 use Rattle.someip_payload_values.specs.declared.shape.Encoding.TheVariants.{Utf8, Utf16}
 use Rattle.someip_payload_values.specs.Steps.{◌>>=◌}
 use Rattle.someip_payload_values.specs.Check.{checked}
+use Rattle.someip_payload_values.specs.Floats.{bits_size}
 use Rattle.someip_payload_values.specs.Numbers.{width_of, size_of, is_odd}
 use Rattle.someip_payload_values.specs.Tags.{own_width, has_wire_type, width_in, tag_in}
 use Rattle.someip_payload_codec.specs.Grammar.{has_required}
 use Rattle.someip_payload_values.specs.Texts.{utf16_mark}
-use Rattle.someip_payload_values.specs.Data.{Form, bool, unsigned, signed, string, padded, array, fixed, «struct», union, tagged, named, enumerated, Forms, no_forms, form_then, Variants, no_variants, variant, Members, no_members, member_then, Data, truth, uint, int, phrase, list, tuple, nothing, chosen, slotted, Items, no_items, item, Slots, no_slots, present, absent}
+use Rattle.someip_payload_values.specs.Data.{Form, bool, unsigned, signed, float, string, padded, array, fixed, «struct», union, tagged, named, enumerated, Forms, no_forms, form_then, Variants, no_variants, variant, Members, no_members, member_then, Data, truth, uint, int, real, phrase, list, tuple, nothing, chosen, slotted, Items, no_items, item, Slots, no_slots, present, absent}
 use Rattle.someip_payload_codec.specs.View.{View}
 
 -- the fault that something passes the window's end
@@ -195,6 +196,7 @@ unfoldable mutual
   data_by width bool w = number_at S8 w >>= λ n. Ok (truth (is_odd n.0), n.1)
   data_by width (unsigned order size) w = ordered_at order size w >>= λ n. Ok (uint n.0, n.1)
   data_by width (signed order size) w = ordered_at order size w >>= λ n. Ok (int (signed_of size n.0), n.1)
+  data_by width (float order p) w = ordered_at order (bits_size p) w >>= λ n. Ok (real p n.0, n.1)
   data_by width (string encoding own) w = body_at width w >>= λ body. text_at encoding w.place body.0.bytes >>= λ s. Ok (phrase s, body.1)
   data_by width (padded encoding n) w = front_at n w >>= λ front. padded_at encoding w.place front.0 >>= λ s. Ok (phrase s, front.1)
   data_by width (array own most element) w = body_at width w >>= λ body. items_at (data_by (own_width element) element) most body.0 >>= λ items. Ok (list items, body.1)

@@ -7,6 +7,8 @@ ghost use Rattle.someip_payload_codec.specs.Grammar.{Reads};
 ghost use Rattle.someip_payload_codec.specs.Reading.{decoded};
 ghost use Rattle.someip_payload_values.specs.Writing.{encoded};
 
+pub use someip_payload_values::laws::a_text_says_one_float;
+
 /// What `encode` writes is read again as the same value, all of it, whatever bytes follow.
 pub fn what_is_written_is_read_again()
     ensures { (f : Form) (d : Data) (text more : List ℕ) → encoded f d ≡ Ok text

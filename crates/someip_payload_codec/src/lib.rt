@@ -12,6 +12,7 @@
 //! length field narrowed so, and its type field stays at 32 bits.
 #![tactic(auto)]
 
+mod basic;
 mod fields;
 pub mod laws;
 mod members;

@@ -1,9 +1,7 @@
 //! Values from bytes.
 
 ghost use Rattle.std.specs.Prelude.{◌≡◌, ◌≤◌, ◌<◌, ℕ, take, length, Some, None, IfOk, IfErr, Ok, Err};
-ghost use Rattle.std.specs.Int.{cast_signed};
-ghost use Rattle.someip_payload_values.specs.Numbers.{width_of, limit_of};
-ghost use Rattle.someip_payload_values.specs.Data.{unsigned, signed, bool, string, padded, array, fixed, «struct», tagged, Data};
+ghost use Rattle.someip_payload_values.specs.Data.{array, fixed, «struct», tagged, Data};
 ghost use Rattle.someip_payload_values.specs.Check.{checked};
 ghost use Rattle.someip_payload_codec.specs.Faults.{FaultIn, IsFirstFault, IsReadingFault, whole};
 ghost use Rattle.someip_payload_codec.specs.Grammar.{Reads};
@@ -13,13 +11,13 @@ ghost use Rattle.someip_payload_values.specs.Steps.{Gives};
 ghost use Rattle.someip_payload_codec.specs.Reading.{decoded, data_at, data_by, items_at, fixed_at, members_at, union_at, chosen_at, variant_at, member_at, tagged_at, item_at, all_absent};
 ghost use Rattle.someip_payload_codec.specs.Indexes.{HasIndexes, Fills};
 
-use crate::fields::{body, front, number, ordered, sized, skipped, tag};
+use crate::basic::{double, fixed_text, signed, single, string, truth, unsigned};
+use crate::fields::{body, number, sized, skipped, tag};
 use crate::members::{empty_slots, have_required, indexes_of};
-use crate::text::{padded, text};
 use crate::window::Window;
 use someip_payload_values::{
-    Encoding, Member, Order, PayloadError, Shape, Size, Tag, Value, Width, check_shape,
-    has_wire_type, own_width, size_of, width_in,
+    Member, Order, PayloadError, Shape, Size, Tag, Value, Width, check_shape, has_wire_type,
+    own_width, size_of, width_in,
 };
 use std::alloc::Global;
 use std::collections::BTreeMap;
@@ -74,77 +72,6 @@ fn decode_front(alloc: Global, shape: &Shape, bytes: &[u8]) -> Result<(Value, us
     Ok((value, rest.place))
 }
 
-#[tactic(auto, unfolding(crate::specs::Reading::data_by))]
-fn truth(window: Window<'_>) -> Result<(Value, Window<'_>), PayloadError>
-    ensures { Gives (λ x. (data_of x.0, seen x.1)) result (data_at bool (seen window.entry)) }
-{
-    let (n, rest) = number(Size::S8, window)?;
-    Ok((Value::Bool(n % 2 == 1), rest))
-}
-
-#[tactic(auto, unfolding(crate::specs::Reading::data_by))]
-fn unsigned(
-    order: Order,
-    size: Size,
-    window: Window<'_>,
-) -> Result<(Value, Window<'_>), PayloadError>
-    ensures { Gives (λ x. (data_of x.0, seen x.1)) result (data_at (unsigned order size) (seen window.entry)) }
-{
-    let (n, rest) = ordered(order, size, window)?;
-    Ok((Value::Uint(n), rest))
-}
-
-#[tactic(auto, unfolding(crate::specs::Reading::data_by))]
-fn signed(order: Order, size: Size, window: Window<'_>) -> Result<(Value, Window<'_>), PayloadError>
-    ensures { Gives (λ x. (data_of x.0, seen x.1)) result (data_at (signed order size) (seen window.entry)) }
-{
-    let (n, rest) = ordered(order, size, window)?;
-    Ok((Value::Int(signed_of(size, n)), rest))
-}
-
-/// The text of the body after a length field of that width.
-#[tactic(auto, unfolding(crate::specs::Reading::data_by))]
-fn string(
-    alloc: Global,
-    encoding: Encoding,
-    width: Width,
-    window: Window<'_>,
-) -> Result<(Value, Window<'_>), PayloadError>
-    ensures { Gives (λ x. (data_of x.0, seen x.1)) result (data_by width (string encoding width) (seen window.entry)) }
-{
-    let (body, rest) = body(width, window)?;
-    let text = text(alloc, encoding, window.place, body.bytes)?;
-    Ok((Value::Text(text), rest))
-}
-
-/// The text of exactly so many bytes.
-#[tactic(auto, unfolding(crate::specs::Reading::data_by))]
-fn fixed_text(
-    alloc: Global,
-    encoding: Encoding,
-    len: u32,
-    window: Window<'_>,
-) -> Result<(Value, Window<'_>), PayloadError>
-    ensures { Gives (λ x. (data_of x.0, seen x.1)) result (data_at (padded encoding len) (seen window.entry)) }
-{
-    let (bytes, rest) = front(window, len as usize)?;
-    let text = padded(alloc, encoding, window.place, bytes)?;
-    Ok((Value::Text(text), rest))
-}
-
-/// The signed number whose two's complement has these bits.
-fn signed_of(size: Size, n: u64) -> i64
-    requires { n < limit_of size }
-    ensures { result ≡ cast_signed (width_of size) n }
-{
-    match size {
-        Size::S8 => i64::from((n as u8).cast_signed()),
-        Size::S16 => i64::from((n as u16).cast_signed()),
-        Size::S32 => i64::from((n as u32).cast_signed()),
-        Size::S64 => n.cast_signed(),
-    }
-}
-
 #[cycle(read)]
 fn value<'a>(
     alloc: Global,
@@ -183,6 +110,10 @@ fn value_by<'a>(
         Shape::I16Le => signed(Order::Little, Size::S16, window),
         Shape::I32Le => signed(Order::Little, Size::S32, window),
         Shape::I64Le => signed(Order::Little, Size::S64, window),
+        Shape::F32 => single(Order::Big, window),
+        Shape::F64 => double(Order::Big, window),
+        Shape::F32Le => single(Order::Little, window),
+        Shape::F64Le => double(Order::Little, window),
         Shape::Text(encoding, _) => string(alloc, *encoding, width, window),
         Shape::FixedText(encoding, len) => fixed_text(alloc, *encoding, *len, window),
         Shape::Array(_, max, element) => array(alloc, width, *max, element, window),

@@ -4,7 +4,7 @@ use Rattle.std.proofs.lemmas.Bool.{and_parts, ltb-true, leb-true, ne_eqb, eq-eqb
 use Rattle.std.specs.Prelude.{ℤ}
 use Rattle.someip_payload_values.specs.declared.shape.Encoding.{Encoding}
 use Rattle.someip_payload_values.specs.declared.shape.Encoding.TheVariants.{Utf8, Utf16}
-use Rattle.someip_payload_values.specs.Data.{Form, bool, unsigned, signed, string, padded, array, fixed, «struct», union, tagged, named, enumerated, Forms, no_forms, form_then, Variants, no_variants, variant, Members, no_members, member_then}
+use Rattle.someip_payload_values.specs.Data.{Form, bool, unsigned, signed, float, string, padded, array, fixed, «struct», union, tagged, named, enumerated, Forms, no_forms, form_then, Variants, no_variants, variant, Members, no_members, member_then}
 use Rattle.someip_payload_values.specs.Check.{has_members, has_variants, has_tagged_members, is_fixed, can_be_tagged, is_among, are_numbers, fit_field, are_ids, names_of, names_of_members, are_names, has_value, is_above, are_values, is_enum, is_room, is_form, are_forms, are_variants, are_tagged}
 use Rattle.someip_payload_codec.specs.Grammar.{is_member}
 
@@ -25,6 +25,7 @@ abbrev mutual
   IsForm bool = Unit {0}
   IsForm (unsigned order size) = Unit {0}
   IsForm (signed order size) = Unit {0}
+  IsForm (float order p) = Unit {0}
   IsForm (string encoding width) = Unit {0}
 
   pub AreForms : Forms → Type 0
@@ -67,6 +68,7 @@ value_form (signed order size) z e = tt
 value_form (named n f) z e = absurd cc
 value_form (enumerated f labels) z e = absurd cc
 value_form bool z e = absurd cc
+value_form (float order p) z e = absurd cc
 value_form (string encoding width) z e = absurd cc
 value_form (padded encoding n) z e = absurd cc
 value_form (array width most element) z e = absurd cc
@@ -95,6 +97,7 @@ mutual
   form_is (padded encoding n) e = room_some encoding n e
   form_is (unsigned order size) e = tt
   form_is (signed order size) e = tt
+  form_is (float order p) e = tt
   form_is (string encoding width) e = tt
   form_is (array width most element) e = form_is element e
   form_is (fixed width n element) e =

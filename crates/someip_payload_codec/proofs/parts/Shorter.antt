@@ -13,7 +13,8 @@ use Rattle.someip_payload_values.specs.declared.shape.Width.TheVariants.{W32}
 use Rattle.someip_payload_values.specs.declared.tag.WireType.{WireType}
 use Rattle.someip_payload_values.specs.declared.tag.WireType.TheVariants.{Basic, OwnLength, Length}
 use Rattle.someip_payload_values.specs.declared.tag.Tag.{Tag}
-use Rattle.someip_payload_values.specs.Data.{Form, bool, unsigned, signed, string, padded, array, fixed, «struct», union, tagged, named, enumerated, Variants, no_variants, variant, Members, no_members, member_then, Data, truth, uint, int, phrase, list, tuple, nothing, chosen, slotted, Slots, no_slots, present, absent}
+use Rattle.someip_payload_values.specs.Floats.{bits_size}
+use Rattle.someip_payload_values.specs.Data.{Form, bool, unsigned, signed, float, string, padded, array, fixed, «struct», union, tagged, named, enumerated, Variants, no_variants, variant, Members, no_members, member_then, Data, truth, uint, int, real, phrase, list, tuple, nothing, chosen, slotted, Slots, no_slots, present, absent}
 use Rattle.someip_payload_codec.specs.View.{View}
 use Rattle.someip_payload_values.specs.Numbers.{width_of, size_of, is_odd}
 use Rattle.someip_payload_values.specs.Tags.{own_width, has_wire_type, width_in, tag_in}
@@ -134,6 +135,9 @@ value_left (unsigned order size) t width w v d can e =
 value_left (signed order size) t width w v d can e =
     let a = bind_ok (ordered_at order size w) (λ n. Ok (int (signed_of size n.0), n.1)) (d, v) e in
     step w a.0.1 v (int (signed_of size a.0.0)) d (ordered_left order size w a.0.1 a.0.0 a.1) a.2
+value_left (float order p) t width w v d can e =
+    let a = bind_ok (ordered_at order (bits_size p) w) (λ n. Ok (real p n.0, n.1)) (d, v) e in
+    step w a.0.1 v (real p a.0.0) d (ordered_left order (bits_size p) w a.0.1 a.0.0 a.1) a.2
 value_left (string encoding own) t width w v d can e =
     let a = bind_ok (body_at width w) (λ body. text_at encoding w.place body.0.bytes >>= λ s. Ok (phrase s, body.1)) (d, v) e in
     let b = bind_ok (text_at encoding w.place a.0.0.bytes) (λ s. Ok (phrase s, a.0.1)) (d, v) a.2 in

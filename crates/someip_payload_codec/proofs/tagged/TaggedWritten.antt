@@ -5,7 +5,8 @@ use Rattle.someip_payload_values.specs.declared.number.Size.{Size}
 use Rattle.someip_payload_values.specs.declared.number.Size.TheVariants.{S8, S16, S32, S64}
 use Rattle.someip_payload_values.specs.declared.tag.WireType.{WireType}
 use Rattle.someip_payload_values.specs.declared.tag.WireType.TheVariants.{Basic, OwnLength, Length}
-use Rattle.someip_payload_values.specs.Data.{Form, bool, unsigned, signed, string, padded, array, fixed, «struct», union, tagged, named, enumerated, Members, no_members, member_then, Slots, no_slots, present, absent}
+use Rattle.someip_payload_values.specs.Data.{Form, bool, unsigned, signed, float, string, padded, array, fixed, «struct», union, tagged, named, enumerated, Members, no_members, member_then, Slots, no_slots, present, absent}
+use Rattle.someip_payload_values.specs.Floats.{bits_size}
 use Rattle.someip_payload_values.specs.Check.{can_be_tagged}
 use Rattle.someip_payload_values.specs.Tags.{TaggedItem, with_id, own_width, same_size, has_wire_type, width_in, wire_type_of}
 use Rattle.someip_payload_codec.specs.Grammar.{is_member, SkipsOthers, ReadsItems}
@@ -24,6 +25,7 @@ own_type (enumerated f labels) can = own_type f can
 own_type (padded encoding n) can = absurd cc
 own_type (unsigned order size) can = size_itself size
 own_type (signed order size) can = size_itself size
+own_type (float order p) can = size_itself (bits_size p)
 own_type (string encoding width) can = refl
 own_type (array width most element) can = refl
 own_type (fixed None n element) can = absurd cc
@@ -47,6 +49,7 @@ own_width_in (enumerated f labels) = inner_width (wire_type_of f) (enumerated f 
 own_width_in (padded encoding n) = refl
 own_width_in (unsigned order size) = refl
 own_width_in (signed order size) = refl
+own_width_in (float order p) = refl
 own_width_in (string encoding width) = refl
 own_width_in (array width most element) = refl
 own_width_in (fixed None n element) = refl

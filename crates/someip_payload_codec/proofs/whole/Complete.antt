@@ -13,7 +13,8 @@ use Rattle.someip_payload_values.specs.declared.number.Size.TheVariants.{S8, S16
 use Rattle.someip_payload_values.specs.declared.number.Order.{Order}
 use Rattle.someip_payload_values.specs.declared.shape.Width.{Width}
 use Rattle.someip_payload_values.specs.declared.shape.Width.TheVariants.{W8, W16, W32}
-use Rattle.someip_payload_values.specs.Data.{Form, bool, unsigned, signed, string, padded, array, fixed, «struct», union, tagged, named, enumerated, Forms, no_forms, form_then, Variants, no_variants, variant, Members, no_members, member_then, Data, truth, uint, int, phrase, list, tuple, nothing, chosen, slotted, Items, no_items, item, Slots, count}
+use Rattle.someip_payload_values.specs.Floats.{Precision, bits_size}
+use Rattle.someip_payload_values.specs.Data.{Form, bool, unsigned, signed, float, string, padded, array, fixed, «struct», union, tagged, named, enumerated, Forms, no_forms, form_then, Variants, no_variants, variant, Members, no_members, member_then, Data, truth, uint, int, real, phrase, list, tuple, nothing, chosen, slotted, Items, no_items, item, Slots, count}
 use Rattle.someip_payload_codec.specs.View.{View}
 use Rattle.someip_payload_values.specs.Numbers.{width_of, limit_of, size_of, number, number_in, Begins}
 use Rattle.someip_payload_values.specs.Tags.{items_bytes, own_width}
@@ -92,6 +93,7 @@ reads_some width (enumerated f labels) d text is h = reads_some width f d text i
 reads_some width bool (truth b) text is (n, below, e, same) = rw e (number_some S8 n)
 reads_some width (unsigned order size) (uint n) text is h = rw h.1 (ordered_some order size n)
 reads_some width (signed order size) (int z) text is h = rw h.1 (ordered_some order size (cast_unsigned (width_of size) z))
+reads_some width (float order p) (real own bits) text is h = rw h.2 (ordered_some order (bits_size p) bits)
 reads_some width (padded encoding n) (phrase s) text is h = omega (arith, h.0, is)
 reads_some width (string encoding own) (phrase s) text is (body, short, e, spells) = rw e (framed_some width (length body) body)
 reads_some width (array own max element) (list ds) text is (few, (body, short, e, each)) = rw e (framed_some width (length body) body)
@@ -163,6 +165,8 @@ mutual
   data_again width (enumerated f labels) w v d text is h p = data_again width f w v d text is h p
   data_again width bool w v (truth b) text is (n, below, e, same) p = rw (number_again S8 w v n (rw e at p) below, same) refl
   data_again width (unsigned order size) w v (uint n) text is h p = rw (ordered_again order size w v n (rw h.1 at p) h.0) refl
+  data_again width (float order p) w v (real own bits) text is h took =
+      rw (ordered_again order (bits_size p) w v bits (rw h.2 at took) h.1) (ap (λ (q : Precision). Ok (real q bits, v)) h.0)
   data_again width (padded encoding n) w v (phrase s) text is h p = rw (front_again n w v text p h.0, padded_again encoding w.place text s h.1) refl
   data_again width (signed order size) w v (int z) text is h p =
       rw (ordered_again order size w v (cast_unsigned (width_of size) z) (rw h.1 at p) (signed_below size z h.0), to_z-of_z (width_of size) z h.0) refl

@@ -6,7 +6,7 @@ use Rattle.someip_payload_values.specs.declared.error.PayloadError.TheVariants.{
 use Rattle.someip_payload_values.specs.declared.shape.Width.{Width}
 use Rattle.someip_payload_values.specs.declared.tag.WireType.{WireType}
 use Rattle.someip_payload_values.specs.declared.tag.WireType.TheVariants.{Basic, OwnLength, Length}
-use Rattle.someip_payload_values.specs.Data.{Form, bool, unsigned, signed, string, padded, array, fixed, «struct», union, tagged, named, enumerated, Forms, no_forms, form_then, Variants, no_variants, variant, Members, member_then, Slots, present, absent}
+use Rattle.someip_payload_values.specs.Data.{Form, bool, unsigned, signed, float, string, padded, array, fixed, «struct», union, tagged, named, enumerated, Forms, no_forms, form_then, Variants, no_variants, variant, Members, member_then, Slots, present, absent}
 use Rattle.someip_payload_codec.specs.View.{View}
 use Rattle.someip_payload_values.specs.Steps.{Gives}
 use Rattle.someip_payload_values.specs.Check.{checked}
@@ -52,6 +52,7 @@ mutual
   fault_kind width bool e w h = short_kind w e h.1
   fault_kind width (unsigned order size) e w h = short_kind w e h.1
   fault_kind width (signed order size) e w h = short_kind w e h.1
+  fault_kind width (float order p) e w h = short_kind w e h.1
   fault_kind width (string encoding own) e w (inl (none, same)) = short_kind w e same
   fault_kind width (string encoding own) e w (inr (body, has, inl (open_end, same))) = subst IsReadingFault (sym same) tt
   fault_kind width (string encoding own) e w (inr (body, has, inr (ended, bad, same))) = subst IsReadingFault (sym same) tt

@@ -18,7 +18,8 @@ use Rattle.someip_payload_values.specs.declared.tag.WireType.TheVariants.{Basic,
 use Rattle.someip_payload_values.specs.declared.tag.Tag.{Tag}
 use Rattle.someip_payload_values.specs.declared.shape.Encoding.{Encoding}
 use Rattle.someip_payload_values.specs.declared.shape.Encoding.TheVariants.{Utf8, Utf16}
-use Rattle.someip_payload_values.specs.Data.{Form, bool, unsigned, signed, string, padded, array, fixed, «struct», union, tagged, named, enumerated, Forms, no_forms, form_then, Variants, no_variants, variant, Members, no_members, member_then, Data, phrase, list, tuple, slotted, Items, no_items, item, Slots, present, absent, count}
+use Rattle.someip_payload_values.specs.Floats.{bits_size}
+use Rattle.someip_payload_values.specs.Data.{Form, bool, unsigned, signed, float, string, padded, array, fixed, «struct», union, tagged, named, enumerated, Forms, no_forms, form_then, Variants, no_variants, variant, Members, no_members, member_then, Data, phrase, list, tuple, slotted, Items, no_items, item, Slots, present, absent, count}
 use Rattle.someip_payload_codec.specs.View.{View}
 use Rattle.someip_payload_values.specs.Steps.{◌>>=◌}
 use Rattle.someip_payload_values.specs.Check.{checked}
@@ -279,6 +280,7 @@ mutual
   data_bad width bool w e is fits h = rw (number_bad S8 w e h) refl
   data_bad width (unsigned order size) w e is fits h = rw (ordered_bad order size w e h) refl
   data_bad width (signed order size) w e is fits h = rw (ordered_bad order size w e h) refl
+  data_bad width (float order p) w e is fits h = rw (ordered_bad order (bits_size p) w e h) refl
   data_bad width (string encoding own) w e is fits h =
       body_bad width (FaultInText encoding w.place e) w e (λ body. text_at encoding w.place body.0.bytes >>= λ s. Ok (phrase s, body.1)) fits
       (λ b v bytes bad. bind_bad (text_at encoding w.place b.bytes) (λ s. Ok (phrase s, v)) e (text_bad encoding w.place b e (text_at encoding w.place b.bytes) bytes bad refl)) h

@@ -6,7 +6,8 @@ use Rattle.someip_payload_values.specs.declared.error.PayloadError.TheVariants.{
 use Rattle.someip_payload_values.specs.declared.number.Size.TheVariants.{S8}
 use Rattle.someip_payload_values.specs.declared.shape.Width.{Width}
 use Rattle.someip_payload_values.specs.declared.tag.Tag.{Tag}
-use Rattle.someip_payload_values.specs.Data.{Form, bool, unsigned, signed, string, padded, array, fixed, «struct», union, tagged, named, enumerated, Forms, no_forms, form_then, Variants, no_variants, variant, Members, no_members, member_then, Data, truth, uint, int, phrase, list, tuple, nothing, chosen, slotted, Items, no_items, item, Slots, no_slots, present, absent}
+use Rattle.someip_payload_values.specs.Floats.{bits_size}
+use Rattle.someip_payload_values.specs.Data.{Form, bool, unsigned, signed, float, string, padded, array, fixed, «struct», union, tagged, named, enumerated, Forms, no_forms, form_then, Variants, no_variants, variant, Members, no_members, member_then, Data, truth, uint, int, real, phrase, list, tuple, nothing, chosen, slotted, Items, no_items, item, Slots, no_slots, present, absent}
 use Rattle.someip_payload_codec.specs.View.{View}
 use Rattle.someip_payload_values.specs.declared.error.PayloadError.{PayloadError}
 use Rattle.someip_payload_values.specs.Steps.{◌>>=◌}
@@ -159,6 +160,8 @@ mutual
       ]
   data_failed width (unsigned order size) w e form fits h =
       elim (bind_err (ordered_at order size w) (λ n. Ok (uint n.0, n.1)) e h) [ inl first ↦ ordered_failed order size w e first | inr (x, was, then) ↦ absurd cc ]
+  data_failed width (float order p) w e form fits h =
+      elim (bind_err (ordered_at order (bits_size p) w) (λ n. Ok (real p n.0, n.1)) e h) [ inl first ↦ ordered_failed order (bits_size p) w e first | inr (x, was, then) ↦ absurd cc ]
   data_failed width (signed order size) w e form fits h =
       elim (bind_err (ordered_at order size w) (λ n. Ok (int (signed_of size n.0), n.1)) e h) [ inl first ↦ ordered_failed order size w e first | inr (x, was, then) ↦ absurd cc ]
   data_failed width (string encoding own) w e form fits h =

@@ -12,7 +12,8 @@ use Rattle.someip_payload_values.specs.declared.number.Size.{Size}
 use Rattle.someip_payload_values.specs.declared.number.Size.TheVariants.{S8, S16, S32, S64}
 use Rattle.someip_payload_values.specs.declared.shape.Width.{Width}
 use Rattle.someip_payload_values.specs.declared.tag.Tag.{Tag}
-use Rattle.someip_payload_values.specs.Data.{Form, bool, unsigned, signed, string, padded, array, fixed, «struct», union, tagged, named, enumerated, Forms, no_forms, form_then, Variants, no_variants, variant, Members, no_members, member_then, Data, truth, uint, int, phrase, list, tuple, nothing, chosen, slotted, Items, no_items, item, Slots, no_slots, present, absent, count}
+use Rattle.someip_payload_values.specs.Floats.{bits_size}
+use Rattle.someip_payload_values.specs.Data.{Form, bool, unsigned, signed, float, string, padded, array, fixed, «struct», union, tagged, named, enumerated, Forms, no_forms, form_then, Variants, no_variants, variant, Members, no_members, member_then, Data, truth, uint, int, real, phrase, list, tuple, nothing, chosen, slotted, Items, no_items, item, Slots, no_slots, present, absent, count}
 use Rattle.someip_payload_codec.specs.View.{View}
 use Rattle.someip_payload_values.specs.Numbers.{width_of, limit_of, size_of, number, number_in, framed, typed, is_odd, Begins}
 use Rattle.someip_payload_values.specs.Tags.{own_width}
@@ -162,6 +163,10 @@ mutual
       let s = signed_fits size a.0.0 t.1 in
       subst (λ (x : Data × View). Takes (ReadsBy width (signed order size) x.0) w x.1) (ok_is (int (signed_of size a.0.0), a.0.1) (d, v) a.2)
       (record { text = _; took = t.0; holds = (s.0, ap (number_in order size) (sym s.1)) })
+  data_took width (float order p) w v d form fits e =
+      let a = bind_ok (ordered_at order (bits_size p) w) (λ n. Ok (real p n.0, n.1)) (d, v) e in
+      let t = ordered_took order (bits_size p) w a.0.1 a.0.0 fits a.1 in
+      subst (λ (x : Data × View). Takes (ReadsBy width (float order p) x.0) w x.1) (ok_is (real p a.0.0, a.0.1) (d, v) a.2) (record { text = _; took = t.0; holds = (refl, t.1, refl) })
   data_took width (string encoding own) w v d form fits e =
       let a = bind_ok (body_at width w) (λ body. text_at encoding w.place body.0.bytes >>= λ s. Ok (phrase s, body.1)) (d, v) e in
       let b = bind_ok (text_at encoding w.place a.0.0.bytes) (λ s. Ok (phrase s, a.0.1)) (d, v) a.2 in

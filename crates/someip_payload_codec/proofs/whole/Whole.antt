@@ -14,7 +14,8 @@ use Rattle.someip_payload_values.specs.declared.number.Size.TheVariants.{S8, S16
 use Rattle.someip_payload_values.specs.declared.number.Order.{Order}
 use Rattle.someip_payload_values.specs.declared.shape.Width.{Width}
 use Rattle.someip_payload_values.specs.declared.value.Value.{Value}
-use Rattle.someip_payload_values.specs.Data.{Form, bool, unsigned, signed, string, padded, array, fixed, «struct», union, tagged, named, enumerated, Forms, no_forms, form_then, Variants, no_variants, variant, Members, no_members, member_then, Data, truth, uint, int, phrase, list, tuple, nothing, chosen, slotted, Items, no_items, item, Slots, no_slots, present, absent, count}
+use Rattle.someip_payload_values.specs.Floats.{Precision, single, double, bits_size}
+use Rattle.someip_payload_values.specs.Data.{Form, bool, unsigned, signed, float, string, padded, array, fixed, «struct», union, tagged, named, enumerated, Forms, no_forms, form_then, Variants, no_variants, variant, Members, no_members, member_then, Data, truth, uint, int, real, phrase, list, tuple, nothing, chosen, slotted, Items, no_items, item, Slots, no_slots, present, absent, count}
 use Rattle.someip_payload_codec.specs.View.{View}
 use Rattle.someip_payload_values.specs.View.{data_of}
 use Rattle.someip_payload_values.specs.Steps.{◌>>=◌, Fails, Gives}
@@ -24,7 +25,7 @@ use Rattle.someip_payload_codec.specs.Grammar.{is_member, Picks, Each, SkipsOthe
 use Rattle.someip_payload_codec.specs.Texts.{SpellsText}
 use Rattle.someip_payload_codec.specs.Reading.{data_at, decoded}
 use Rattle.someip_payload_values.specs.Tags.{TaggedItem, item_bytes, items_bytes, with_id, own_width, width_in, wire_type_of}
-use Rattle.someip_payload_values.specs.Writing.{count_forms, number_text, signed_text, body_text, text_body, each_text, array_text, fixed_text, framed_text, padded_text, has_zero, typed_text, chosen_text, item_text, absent_text, count_members, count_slots, text_of, members_text, variant_text, slots_text, encoded}
+use Rattle.someip_payload_values.specs.Writing.{count_forms, number_text, signed_text, real_text, body_text, text_body, each_text, array_text, fixed_text, framed_text, padded_text, has_zero, typed_text, chosen_text, item_text, absent_text, count_members, count_slots, text_of, members_text, variant_text, slots_text, encoded}
 use Rattle.someip_payload_codec.specs.Faults.{FaultIn, IsFirstFault, whole}
 use Rattle.someip_payload_values.proofs.StepLemmas.{passed, kept, bind_err, only_first}
 use Rattle.someip_payload_codec.proofs.parts.Parts.{IsBytes, bind_ok, ok_is, Took}
@@ -78,6 +79,14 @@ unfolding number_text
 number_reads order size n text e =
     let a = passed (ltb n (limit_of size)) (Ok (number_in order size n)) (NotOfShape 0) text e in
     (ltb-true _ _ a.0, sym (ok_is (number_in order size n) text a.1))
+
+real_reads : (order : Order) (p own : Precision) (bits : ℕ) (text : List ℕ) → real_text order p own bits ≡ Ok text
+    → (p ≡ own) × (bits < limit_of (bits_size p)) × (text ≡ number_in order (bits_size p) bits)
+unfolding real_text
+real_reads order single single bits text e = let a = number_reads order S32 bits text e in (refl, a.0, a.1)
+real_reads order double double bits text e = let a = number_reads order S64 bits text e in (refl, a.0, a.1)
+real_reads order single double bits text e = absurd cc
+real_reads order double single bits text e = absurd cc
 
 signed_is : (size : Size) (z : ℤ) → is_signed size z ≡ true → FitsSigned (width_of size) z
 signed_is S8 (pos n) e = record { sfits = ltb-true _ _ e }
@@ -148,6 +157,7 @@ mutual
   text_reads bool (truth b) text is e = bit_reads b text (sym (ok_is (number S8 (bit_of b)) text e))
   text_reads (unsigned order size) (uint n) text is e = number_reads order size n text e
   text_reads (signed order size) (int z) text is e = signed_reads order size z text e
+  text_reads (float order p) (real own bits) text is e = real_reads order p own bits text e
   text_reads (padded encoding n) (phrase s) text is e =
       let a = passed (is_utf8 s && not (has_zero s)) (padded_text n (text_body encoding s)) (NotOfShape 0) text e in
       let p = and_parts (is_utf8 s) (not (has_zero s)) a.0 in

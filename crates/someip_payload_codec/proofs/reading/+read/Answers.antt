@@ -1,14 +1,15 @@
 use Rattle.std.proofs.Common.{None, Some, string_bytes, is_some, true, false, sym, refl, ◌≡◌, ◌<◌, ◌++◌, ◌∷◌, [], ◌∙◌, ap, length, map, rules, arith}
 use Rattle.std.proofs.lemmas.Result.{err_from_is_err_and}
 use Rattle.std.proofs.lemmas.List.{map_push, length-map, with_items_is}
-use Rattle.someip_payload_values.specs.Data.{bool, u8, u16, u32, u64, i8, i16, i32, i64, unsigned, signed, padded, named, enumerated, string, array, fixed, union, tagged}
+use Rattle.someip_payload_values.specs.Data.{bool, u8, u16, u32, u64, i8, i16, i32, i64, unsigned, signed, float, padded, named, enumerated, string, array, fixed, union, tagged}
 use Rattle.someip_payload_values.specs.declared.shape.Width.TheVariants.{W32}
-use Rattle.someip_payload_values.specs.declared.number.Order.TheVariants.{Little}
+use Rattle.someip_payload_values.specs.declared.number.Order.TheVariants.{Big, Little}
 use Rattle.someip_payload_values.specs.declared.number.Size.TheVariants.{S16, S32, S64}
+use Rattle.someip_payload_values.specs.Floats.{single, double}
 use Rattle.someip_payload_values.specs.View.{form, labels_of, all_variants, all_members, data_of, slots_of}
 use Rattle.someip_payload_codec.specs.View.{seen}
 use Rattle.someip_payload_codec.specs.Reading.{data_at, data_by, items_at, chosen_at, item_by, item_at}
-use Rattle.someip_payload_values.proofs.Shapes.{form-Bool, form-U8, form-U16, form-U32, form-U64, form-I8, form-I16, form-I32, form-I64, form-U16Le, form-U32Le, form-U64Le, form-I16Le, form-I32Le, form-I64Le, form-FixedText, form-FramedFixed, form-SizedUnion, form-Named, form-Enum, form-Text, form-Array, form-Fixed, form-Union, form-Tagged, data_of-Some}
+use Rattle.someip_payload_values.proofs.Shapes.{form-Bool, form-U8, form-U16, form-U32, form-U64, form-I8, form-I16, form-I32, form-I64, form-U16Le, form-U32Le, form-U64Le, form-I16Le, form-I32Le, form-I64Le, form-F32, form-F64, form-F32Le, form-F64Le, form-FixedText, form-FramedFixed, form-SizedUnion, form-Named, form-Enum, form-Text, form-Array, form-Fixed, form-Union, form-Tagged, data_of-Some}
 use Rattle.someip_payload_codec.proofs.parts.Loops.{items_go_on, items_fail, items_too_many, items_done, fixed_more, fixed_bad, fixed_end, members_go_on, members_fail, members_done, variant_hit, variant_miss, variant_none}
 use Rattle.someip_payload_values.specs.declared.shape.Shape.{the_lemmas}
 use Rattle.someip_payload_codec.proofs.tagged.TaggedLoops.{none_read, found_in, skip_fills, slots_duplicate, slots_fault, slots_value, tagged_go_on, tagged_fail, tagged_done}
@@ -336,4 +337,28 @@ unfolding data_by
 value_by-returns-in-Enum t c =
     let x = c.in-Enum in
     let f : form c.args.shape.now ≡ enumerated (form x.shape.value) (labels_of x.field-1.items) = ap form x.is ∙ form-Enum x.shape x.field-1 in
+    rw f (search rules)
+
+pub value_by-returns-in-F32 : goal.value_by-returns-in-F32
+unfolding data_by
+value_by-returns-in-F32 t c =
+    let f : form c.args.shape.now ≡ float Big single = ap form c.in-F32.is ∙ form-F32 in
+    rw f (search rules)
+
+pub value_by-returns-in-F64 : goal.value_by-returns-in-F64
+unfolding data_by
+value_by-returns-in-F64 t c =
+    let f : form c.args.shape.now ≡ float Big double = ap form c.in-F64.is ∙ form-F64 in
+    rw f (search rules)
+
+pub value_by-returns-in-F32Le : goal.value_by-returns-in-F32Le
+unfolding data_by
+value_by-returns-in-F32Le t c =
+    let f : form c.args.shape.now ≡ float Little single = ap form c.in-F32Le.is ∙ form-F32Le in
+    rw f (search rules)
+
+pub value_by-returns-in-F64Le : goal.value_by-returns-in-F64Le
+unfolding data_by
+value_by-returns-in-F64Le t c =
+    let f : form c.args.shape.now ≡ float Little double = ap form c.in-F64Le.is ∙ form-F64Le in
     rw f (search rules)
