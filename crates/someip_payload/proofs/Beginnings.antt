@@ -9,6 +9,7 @@ use Rattle.std.proofs.Math.Nat.{eq-or-lt_of_le}
 use Rattle.someip_payload_values.specs.declared.shape.Encoding.TheVariants.{Utf8, Utf16}
 use Rattle.someip_payload.specs.declared.words.Integer.TheVariants as integer
 use Rattle.someip_payload.specs.declared.words.Word.{Word}
+use Rattle.someip_payload.specs.declared.words.Float.TheVariants as floats
 use Rattle.someip_payload.specs.declared.words.Word.TheVariants as word
 use Rattle.someip_payload.specs.declared.shape_text_error.ShapeTextError.{ShapeTextError}
 use Rattle.someip_payload.specs.Words.{word_text}
@@ -46,6 +47,10 @@ word_text-nonempty (word.Integer integer.U64Le) h = cc
 word_text-nonempty (word.Integer integer.I16Le) h = cc
 word_text-nonempty (word.Integer integer.I32Le) h = cc
 word_text-nonempty (word.Integer integer.I64Le) h = cc
+word_text-nonempty (word.Float floats.F32) h = cc
+word_text-nonempty (word.Float floats.F64) h = cc
+word_text-nonempty (word.Float floats.F32Le) h = cc
+word_text-nonempty (word.Float floats.F64Le) h = cc
 word_text-nonempty (word.Text Utf8) h = cc
 word_text-nonempty (word.Text Utf16) h = cc
 word_text-nonempty (word.FixedText Utf8) h = cc

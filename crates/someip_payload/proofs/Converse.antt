@@ -10,15 +10,17 @@ use Rattle.someip_payload_values.specs.declared.shape.Width.{Width}
 use Rattle.someip_payload_values.specs.declared.shape.Width.TheVariants.{W8, W16, W32}
 use Rattle.someip_payload.specs.declared.words.Integer.{Integer}
 use Rattle.someip_payload.specs.declared.words.Integer.TheVariants as integer
+use Rattle.someip_payload.specs.declared.words.Float.{Float}
+use Rattle.someip_payload.specs.declared.words.Float.TheVariants as floats
 use Rattle.someip_payload.specs.declared.words.Word.{Word}
 use Rattle.someip_payload.specs.declared.words.Word.TheVariants as word
 use Rattle.someip_payload.specs.declared.shape_text_error.ShapeTextError.{ShapeTextError}
 use Rattle.someip_payload.specs.declared.shape_text_error.ShapeTextError.TheVariants.{BadShape, OutOfMemory}
 use Rattle.someip_payload_values.specs.Check.{depth, is_later}
 use Rattle.someip_payload_values.specs.Data.{Form, enumerated}
-use Rattle.someip_payload.specs.ShapeText.{IsInteger, u8_text, u16_text, u32_text, u64_text, i8_text, i16_text, i32_text, i64_text, u16le_text, u32le_text, u64le_text, i16le_text, i32le_text, i64le_text, IsTextOf, bool_text, integer_text, enum_text, utf8_text, utf16_text, utf8fix_text, utf16fix_text, array_text, fixed_text, struct_text, union_text, tagged_text, width_text, widths_text, room_text, repeated_text, IsDigit, HasNoWidth, EndsWord, EndsShape, IsReadTo}
+use Rattle.someip_payload.specs.ShapeText.{IsInteger, u8_text, u16_text, u32_text, u64_text, i8_text, i16_text, i32_text, i64_text, u16le_text, u32le_text, u64le_text, i16le_text, i32le_text, i64le_text, IsFloat, f32_text, f64_text, f32le_text, f64le_text, IsTextOf, bool_text, integer_text, float_text, enum_text, utf8_text, utf16_text, utf8fix_text, utf16fix_text, array_text, fixed_text, struct_text, union_text, tagged_text, width_text, widths_text, room_text, repeated_text, IsDigit, HasNoWidth, EndsWord, EndsShape, IsReadTo}
 use Rattle.someip_payload_values.specs.View.{form}
-use Rattle.someip_payload.specs.Words.{integer_form, integer_word, word_text, Behind}
+use Rattle.someip_payload.specs.Words.{integer_form, integer_word, float_form, float_word, word_text, Behind}
 use Rattle.someip_payload.proofs.Places.{behind_piece}
 
 -- ---- two answers that are one
@@ -95,6 +97,20 @@ integer_is integer.I16Le = i16le_text
 integer_is integer.I32Le = i32le_text
 integer_is integer.I64Le = i64le_text
 
+-- ---- and of floats
+
+pub float_of : (f : Form) (text : List ℕ) → IsFloat f text → (x : Float) × (f ≡ float_form x) × (text ≡ float_word x)
+float_of f text f32_text = (floats.F32, refl, refl)
+float_of f text f64_text = (floats.F64, refl, refl)
+float_of f text f32le_text = (floats.F32Le, refl, refl)
+float_of f text f64le_text = (floats.F64Le, refl, refl)
+
+pub float_is : (x : Float) → IsFloat (float_form x) (float_word x)
+float_is floats.F32 = f32_text
+float_is floats.F64 = f64_text
+float_is floats.F32Le = f32le_text
+float_is floats.F64Le = f64le_text
+
 -- ---- what stands after a shape and after its word
 
 pub ends_word : (rest : List ℕ) → EndsShape rest → EndsWord rest
@@ -141,6 +157,7 @@ pub behind_ends : (w : Word) (f : Form) (back rest : List ℕ) → Behind w f ba
 behind_ends word.Bool f back rest behind stops = subst EndsWord (sym (ap (λ (t : List ℕ). t ++ rest) behind.1)) (ends_word rest stops)
 behind_ends (word.Integer i) f back rest behind stops =
     ⊎_elim (λ own. subst EndsWord (sym (ap (λ (t : List ℕ). t ++ rest) own.1)) (ends_word rest stops)) (λ own. subst EndsWord (sym (ap (λ (t : List ℕ). t ++ rest) own.4)) brace) behind
+behind_ends (word.Float x) f back rest behind stops = subst EndsWord (sym (ap (λ (t : List ℕ). t ++ rest) behind.1)) (ends_word rest stops)
 behind_ends (word.Text e) f back rest behind stops = subst EndsWord (sym (ap (λ (t : List ℕ). t ++ rest) behind.2)) (after_width_ends behind.0 rest (ends_word rest stops))
 behind_ends (word.FixedText e) f back rest behind stops = subst EndsWord (sym (ap (λ (t : List ℕ). t ++ rest) behind.3)) angle
 behind_ends word.Array f back rest behind stops = behind_width behind.0 back (repeated_text behind.1 behind.3) rest behind.7 angle
@@ -164,6 +181,9 @@ split f text bool_text = record { first = word.Bool; back = []; is = refl; behin
 split f text (integer_text g bytes is) =
     let own = integer_of g bytes is in
     record { first = word.Integer own.0; back = []; is = own.2 ∙ sym (append-nil (integer_word own.0)); behind = inl (own.1, refl) }
+split f text (float_text g bytes is) =
+    let own = float_of g bytes is in
+    record { first = word.Float own.0; back = []; is = own.2 ∙ sym (append-nil (float_word own.0)); behind = (own.1, refl) }
 split f text (enum_text g bytes ls inside is are) =
     let own = integer_of g bytes is in
     let whole : bytes ++ (codes "{" ++ (inside ++ codes "}")) ≡ integer_word own.0 ++ (codes "{" ++ (inside ++ codes "}")) = ap (λ (t : List ℕ). t ++ (codes "{" ++ (inside ++ codes "}"))) own.2 in

@@ -9,13 +9,15 @@ use Rattle.someip_payload_values.specs.declared.shape.Encoding.{Encoding}
 use Rattle.someip_payload_values.specs.declared.shape.Width.{Width}
 use Rattle.someip_payload.specs.declared.words.Integer.{Integer}
 use Rattle.someip_payload.specs.declared.words.Integer.TheVariants as integer
+use Rattle.someip_payload.specs.declared.words.Float.{Float}
+use Rattle.someip_payload.specs.declared.words.Float.TheVariants as floats
 use Rattle.someip_payload.specs.declared.words.Word.{Word}
 use Rattle.someip_payload.specs.declared.shape_text_error.ShapeTextError.{ShapeTextError}
 use Rattle.someip_payload_values.specs.Check.{depth, deepest_variant}
 use Rattle.someip_payload_values.specs.Data.{Form, string, array, fixed, «struct», tagged, Forms, Variants, Members}
 use Rattle.someip_payload.specs.ShapeText.{IsDigit, HasNoWidth, EndsShape, IsReadTo, width_text, widths_text, or_32, union_of, repeated_text, room_text}
 use Rattle.someip_payload_values.specs.View.{form, forms, all_members}
-use Rattle.someip_payload.specs.Words.{Behind, integer_form}
+use Rattle.someip_payload.specs.Words.{Behind, integer_form, float_form}
 use Rattle.someip_payload.proofs.Converse.{read_of, same_first, same_second, NumberOnly, WordOnly, ShapeOnly, by_word}
 use Rattle.someip_payload.proofs.Places.{behind_piece}
 use Rattle.someip_payload_values.proofs.Shapes.{form-Text, form-Array, form-Struct, form-Tagged, some_depth}
@@ -151,6 +153,12 @@ integer_depth integer.U64Le = refl
 integer_depth integer.I16Le = refl
 integer_depth integer.I32Le = refl
 integer_depth integer.I64Le = refl
+
+pub float_depth : (x : Float) → depth (float_form x) ≡ 1
+float_depth floats.F32 = refl
+float_depth floats.F64 = refl
+float_depth floats.F32Le = refl
+float_depth floats.F64Le = refl
 
 pub union_depth : (ws : Option (Width × Width)) (vs : Variants) → depth (union_of ws vs) ≡ deepest_variant vs + 1
 union_depth None vs = refl

@@ -12,6 +12,7 @@ use Rattle.someip_payload.specs.declared.shape_text_error.ShapeTextError.{ShapeT
 use Rattle.someip_payload.specs.declared.shape_text_error.ShapeTextError.TheVariants.{BadShape, OutOfMemory}
 use Rattle.someip_payload.specs.declared.words.Integer.TheVariants as integer
 use Rattle.someip_payload.specs.declared.words.Word.{Word}
+use Rattle.someip_payload.specs.declared.words.Float.TheVariants as floats
 use Rattle.someip_payload.specs.declared.words.Word.TheVariants as word
 use Rattle.someip_payload.specs.ShapeText.{IsTextOf, IsTextOfMember, member_text, IsTextOfTagged, tagged_one, tagged_member_text, name_text, with_name, IsNameIfAny, EndsName, EndsWord, EndsShape, IsReadTo, reach}
 use Rattle.someip_payload.specs.Words.{word_text}
@@ -51,6 +52,10 @@ word_is_name (word.Integer integer.U64Le) = refl
 word_is_name (word.Integer integer.I16Le) = refl
 word_is_name (word.Integer integer.I32Le) = refl
 word_is_name (word.Integer integer.I64Le) = refl
+word_is_name (word.Float floats.F32) = refl
+word_is_name (word.Float floats.F64) = refl
+word_is_name (word.Float floats.F32Le) = refl
+word_is_name (word.Float floats.F64Le) = refl
 word_is_name (word.Text Utf8) = refl
 word_is_name (word.Text Utf16) = refl
 word_is_name (word.FixedText Utf8) = refl

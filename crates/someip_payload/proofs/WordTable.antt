@@ -10,6 +10,7 @@ use Rattle.someip_payload_values.specs.declared.shape.Width.{Width}
 use Rattle.someip_payload_values.specs.declared.shape.Width.TheVariants.{W8, W16, W32}
 use Rattle.someip_payload.specs.declared.shape_text_error.ShapeTextError.{ShapeTextError}
 use Rattle.someip_payload.specs.declared.words.Integer.TheVariants as integer
+use Rattle.someip_payload.specs.declared.words.Float.TheVariants as floats
 use Rattle.someip_payload.specs.declared.words.Word.{Word}
 use Rattle.someip_payload.specs.declared.words.Word.TheVariants as word
 use Rattle.someip_payload.specs.Fronts.{longest_front, is_word}
@@ -35,6 +36,10 @@ table =
     (codes "i16le", word.Integer integer.I16Le) ∷
     (codes "i32le", word.Integer integer.I32Le) ∷
     (codes "i64le", word.Integer integer.I64Le) ∷
+    (codes "f32", word.Float floats.F32) ∷
+    (codes "f64", word.Float floats.F64) ∷
+    (codes "f32le", word.Float floats.F32Le) ∷
+    (codes "f64le", word.Float floats.F64Le) ∷
     (codes "utf8", word.Text Utf8) ∷
     (codes "utf16", word.Text Utf16) ∷
     (codes "utf8fix", word.FixedText Utf8) ∷
@@ -74,6 +79,10 @@ is_among (word.Integer integer.U64Le) = refl
 is_among (word.Integer integer.I16Le) = refl
 is_among (word.Integer integer.I32Le) = refl
 is_among (word.Integer integer.I64Le) = refl
+is_among (word.Float floats.F32) = refl
+is_among (word.Float floats.F64) = refl
+is_among (word.Float floats.F32Le) = refl
+is_among (word.Float floats.F64Le) = refl
 is_among (word.Text Utf8) = refl
 is_among (word.Text Utf16) = refl
 is_among (word.FixedText Utf8) = refl
@@ -101,6 +110,10 @@ word_back (word.Integer integer.U64Le) = refl
 word_back (word.Integer integer.I16Le) = refl
 word_back (word.Integer integer.I32Le) = refl
 word_back (word.Integer integer.I64Le) = refl
+word_back (word.Float floats.F32) = refl
+word_back (word.Float floats.F64) = refl
+word_back (word.Float floats.F32Le) = refl
+word_back (word.Float floats.F64Le) = refl
 word_back (word.Text Utf8) = refl
 word_back (word.Text Utf16) = refl
 word_back (word.FixedText Utf8) = refl

@@ -3,9 +3,10 @@ use Rattle.std.specs.Prelude.{◌≡◌, ℕ, ℤ, pos, negsuc, String, string_b
 use Rattle.std.specs.Fmt.{decimal}
 use Rattle.std.specs.declared.alloc.Global.{Global}
 use Rattle.someip_payload_values.specs.Check.{is_first, is_later, is_name}
-use Rattle.someip_payload_values.specs.Data.{Form, bool, unsigned, signed, u8, u16, u32, u64, i8, i16, i32, i64, string, padded, array, fixed, «struct», union, tagged, named, enumerated, Forms, no_forms, form_then, Variants, no_variants, variant, Members, no_members, member_then}
+use Rattle.someip_payload_values.specs.Data.{Form, bool, unsigned, signed, float, u8, u16, u32, u64, i8, i16, i32, i64, string, padded, array, fixed, «struct», union, tagged, named, enumerated, Forms, no_forms, form_then, Variants, no_variants, variant, Members, no_members, member_then}
 use Rattle.someip_payload_values.specs.View.{OneMember, form}
-use Rattle.someip_payload_values.specs.declared.number.Order.TheVariants.{Little}
+use Rattle.someip_payload_values.specs.Floats.{single, double}
+use Rattle.someip_payload_values.specs.declared.number.Order.TheVariants.{Big, Little}
 use Rattle.someip_payload_values.specs.declared.number.Size.TheVariants.{S16, S32, S64}
 use Rattle.someip_payload_values.specs.declared.shape.Shape.{Shape}
 use Rattle.someip_payload_values.specs.declared.shape.Encoding.TheVariants.{Utf8, Utf16}
@@ -105,11 +106,19 @@ pub data IsInteger : Form → List ℕ → Type 0 where
   i32le_text : IsInteger (signed Little S32) (codes "i32le")
   i64le_text : IsInteger (signed Little S64) (codes "i64le")
 
+-- the word of a float
+pub data IsFloat : Form → List ℕ → Type 0 where
+  f32_text : IsFloat (float Big single) (codes "f32")
+  f64_text : IsFloat (float Big double) (codes "f64")
+  f32le_text : IsFloat (float Little single) (codes "f32le")
+  f64le_text : IsFloat (float Little double) (codes "f64le")
+
 mutual
   -- the form has the text. A number has 32 bits.
   pub data IsTextOf : Form → List ℕ → Type 0 where
     bool_text : IsTextOf bool (codes "bool")
     integer_text : (f : Form) (text : List ℕ) → IsInteger f text → IsTextOf f text
+    float_text : (f : Form) (text : List ℕ) → IsFloat f text → IsTextOf f text
     enum_text : (f : Form) (word : List ℕ) (ls : List (ℤ × List ℕ)) (text : List ℕ) → IsInteger f word → IsTextOfLabels ls text
         → IsTextOf (enumerated f ls) (word ++ (codes "{" ++ (text ++ codes "}")))
     utf8_text : (w : Option Width) → IsTextOf (string Utf8 (or_32 w)) (codes "utf8" ++ width_text w)

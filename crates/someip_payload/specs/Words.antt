@@ -1,13 +1,16 @@
 -- The words that a shape's text begins with.
 use Rattle.std.specs.Prelude.{◌≡◌, ℕ, ℤ, ◌<◌, ◌^◌, ◌⊎◌, List, [], ◌++◌, Option, codes}
-use Rattle.someip_payload_values.specs.Data.{Form, bool, unsigned, signed, u8, u16, u32, u64, i8, i16, i32, i64, string, padded, array, fixed, «struct», tagged, enumerated, Forms, Variants, Members}
-use Rattle.someip_payload_values.specs.declared.number.Order.TheVariants.{Little}
+use Rattle.someip_payload_values.specs.Data.{Form, bool, unsigned, signed, float, u8, u16, u32, u64, i8, i16, i32, i64, string, padded, array, fixed, «struct», tagged, enumerated, Forms, Variants, Members}
+use Rattle.someip_payload_values.specs.Floats.{single, double}
+use Rattle.someip_payload_values.specs.declared.number.Order.TheVariants.{Big, Little}
 use Rattle.someip_payload_values.specs.declared.number.Size.TheVariants.{S16, S32, S64}
 use Rattle.someip_payload_values.specs.declared.shape.Encoding.TheVariants.{Utf8, Utf16}
 use Rattle.someip_payload_values.specs.declared.shape.Width.{Width}
 use Rattle.someip_payload.specs.ShapeText.{IsTextOf, IsTextOfMembers, IsTextOfVariants, IsTextOfTaggedMembers, IsTextOfLabels, width_text, widths_text, or_32, union_of, room_text, repeated_text}
 use Rattle.someip_payload.specs.declared.words.Integer.{Integer}
 use Rattle.someip_payload.specs.declared.words.Integer.TheVariants as integer
+use Rattle.someip_payload.specs.declared.words.Float.{Float}
+use Rattle.someip_payload.specs.declared.words.Float.TheVariants as floats
 use Rattle.someip_payload.specs.declared.words.Word.{Word}
 use Rattle.someip_payload.specs.declared.words.Word.TheVariants as word
 
@@ -43,9 +46,22 @@ integer_form integer.I16Le = signed Little S16
 integer_form integer.I32Le = signed Little S32
 integer_form integer.I64Le = signed Little S64
 
+abbrev pub float_word : Float → List ℕ
+float_word floats.F32 = codes "f32"
+float_word floats.F64 = codes "f64"
+float_word floats.F32Le = codes "f32le"
+float_word floats.F64Le = codes "f64le"
+
+abbrev pub float_form : Float → Form
+float_form floats.F32 = float Big single
+float_form floats.F64 = float Big double
+float_form floats.F32Le = float Little single
+float_form floats.F64Le = float Little double
+
 abbrev pub word_text : Word → List ℕ
 word_text word.Bool = codes "bool"
 word_text (word.Integer i) = integer_word i
+word_text (word.Float x) = float_word x
 word_text (word.Text Utf8) = codes "utf8"
 word_text (word.Text Utf16) = codes "utf16"
 word_text (word.FixedText Utf8) = codes "utf8fix"
@@ -62,6 +78,7 @@ Behind word.Bool f back = (f ≡ bool) × (back ≡ [])
 Behind (word.Integer i) f back =
     ((f ≡ integer_form i) × (back ≡ []))
     ⊎ ((ls : List (ℤ × List ℕ)) × (text : List ℕ) × IsTextOfLabels ls text × (f ≡ enumerated (integer_form i) ls) × (back ≡ codes "{" ++ (text ++ codes "}")))
+Behind (word.Float x) f back = (f ≡ float_form x) × (back ≡ [])
 Behind (word.Text e) f back = (w : Option Width) × (f ≡ string e (or_32 w)) × (back ≡ width_text w)
 Behind (word.FixedText e) f back = (n : ℕ) × (n < 2 ^ 32) × (f ≡ padded e n) × (back ≡ room_text n)
 Behind word.Array f back =

@@ -13,7 +13,8 @@ use crate::names::{has_name, name_at, name_end, name_to, with_name};
 use crate::shape_text_error::ShapeTextError;
 use crate::text_parts::{ReadTo, byte_at, decimal_at, has_byte, one_after_other};
 use crate::words::{
-    Integer, Word, first_word, fixed_shape, integer_shape, or_32, union_shape, width_at, widths_at,
+    Integer, Word, first_word, fixed_shape, float_shape, integer_shape, or_32, union_shape,
+    width_at, widths_at,
 };
 use someip_payload_codec::{Encoding, Member, Shape};
 use std::alloc::Global;
@@ -31,6 +32,7 @@ const DATA_IDS: u64 = 0x1000;
 /// lie inside each other. A name or an enumeration adds none to these.
 ///
 /// - `bool`, `u8` to `u64`, `i8` to `i64`, and `u16le` to `u64le` and `i16le` to `i64le` in little-endian;
+/// - `f32` and `f64`, and `f32le` and `f64le` in little-endian;
 /// - `utf8/16`, a text after a length field of 16 bits, and `utf8`, after one of 32; `utf8fix<16>`, in 16 bytes;
 ///   likewise `utf16`;
 /// - `array/8<4,u16>`, at most 4 elements; `fixed<2,u8>`, exactly 2, and `fixed/8<2,u8>` after a length field;
@@ -79,6 +81,7 @@ fn shape_at(alloc: Global, text: &[u8], at: usize, left: u32) -> ReadTo<Shape>
     match word {
         Word::Bool => Ok((Shape::Bool, end)),
         Word::Integer(integer) => integer_at(alloc, integer, text, end),
+        Word::Float(float) => Ok((float_shape(float), end)),
         Word::Text(encoding) => string_at(encoding, text, end),
         Word::FixedText(encoding) => padded_at(encoding, text, end),
         Word::Array => array_at(alloc, text, end, left - 1),

@@ -6,7 +6,7 @@ ghost use Rattle.someip_payload_values.specs.Data.{fixed};
 ghost use Rattle.someip_payload_values.specs.View.{form, all_variants};
 ghost use Rattle.someip_payload.specs.declared.words.Word.{Word};
 ghost use Rattle.someip_payload.specs.ShapeText.{IsFaultWithin, HasNoWidth, EndsWord, width_text, widths_text, or_32, union_of};
-ghost use Rattle.someip_payload.specs.Words.{word_text, integer_form};
+ghost use Rattle.someip_payload.specs.Words.{word_text, integer_form, float_form};
 
 use crate::shape_text_error::ShapeTextError;
 use crate::text_parts::{ReadTo, word_at};
@@ -31,11 +31,21 @@ pub(crate) enum Integer {
     I64Le,
 }
 
+/// The word of a float.
+#[derive(Clone, Copy)]
+pub(crate) enum Float {
+    F32,
+    F64,
+    F32Le,
+    F64Le,
+}
+
 /// The word that a shape's text begins with.
 #[derive(Clone, Copy)]
 pub(crate) enum Word {
     Bool,
     Integer(Integer),
+    Float(Float),
     Text(Encoding),
     FixedText(Encoding),
     Array,
@@ -46,7 +56,7 @@ pub(crate) enum Word {
 }
 
 /// What a shape's text begins with.
-const WORDS: [(&str, Word); 24] = [
+const WORDS: [(&str, Word); 28] = [
     ("bool", Word::Bool),
     ("u8", Word::Integer(Integer::U8)),
     ("u16", Word::Integer(Integer::U16)),
@@ -62,6 +72,10 @@ const WORDS: [(&str, Word); 24] = [
     ("i16le", Word::Integer(Integer::I16Le)),
     ("i32le", Word::Integer(Integer::I32Le)),
     ("i64le", Word::Integer(Integer::I64Le)),
+    ("f32", Word::Float(Float::F32)),
+    ("f64", Word::Float(Float::F64)),
+    ("f32le", Word::Float(Float::F32Le)),
+    ("f64le", Word::Float(Float::F64Le)),
     ("utf8", Word::Text(Encoding::Utf8)),
     ("utf16", Word::Text(Encoding::Utf16)),
     ("utf8fix", Word::FixedText(Encoding::Utf8)),
@@ -157,6 +171,18 @@ pub(crate) fn integer_shape(integer: Integer) -> Shape
         Integer::I16Le => Shape::I16Le,
         Integer::I32Le => Shape::I32Le,
         Integer::I64Le => Shape::I64Le,
+    }
+}
+
+/// The shape of a float.
+pub(crate) fn float_shape(float: Float) -> Shape
+    ensures { form result ≡ float_form float }
+{
+    match float {
+        Float::F32 => Shape::F32,
+        Float::F64 => Shape::F64,
+        Float::F32Le => Shape::F32Le,
+        Float::F64Le => Shape::F64Le,
     }
 }
 

@@ -6,11 +6,11 @@ use Rattle.someip_payload_values.specs.declared.shape.Shape.{Bool}
 use Rattle.someip_payload_values.specs.Data.{bool, named}
 use Rattle.someip_payload_values.specs.Check.{depth}
 use Rattle.someip_payload_values.specs.View.{form, all_variants}
-use Rattle.someip_payload.specs.ShapeText.{tagged_member_text, name_text, with_name, repeated_text, width_text, widths_text, bool_text}
-use Rattle.someip_payload.specs.Words.{word_text}
-use Rattle.someip_payload.proofs.Converse.{by_word, plain, word_there, not_read, passed_on, memory_of}
+use Rattle.someip_payload.specs.ShapeText.{tagged_member_text, name_text, with_name, repeated_text, width_text, widths_text, bool_text, float_text}
+use Rattle.someip_payload.specs.Words.{float_word, float_form, word_text}
+use Rattle.someip_payload.proofs.Converse.{by_word, float_is, plain, word_there, not_read, passed_on, memory_of}
 use Rattle.someip_payload.proofs.Places.{behind_piece}
-use Rattle.someip_payload.proofs.ConverseParts.{inner, array_is, fixed_is, struct_is, union_is, tagged_is, stops_repeated, stops_bracket, stops_end, no_digit_comma, after_width, after_widths, after_open, after_count, after_comma, length-repeated, after_bracket, within_more, union_depth}
+use Rattle.someip_payload.proofs.ConverseParts.{inner, array_is, fixed_is, struct_is, union_is, tagged_is, stops_repeated, stops_bracket, stops_end, no_digit_comma, after_width, after_widths, after_open, after_count, after_comma, length-repeated, after_bracket, within_more, float_depth, union_depth}
 use Rattle.someip_payload.proofs.MemberTexts.{tagged_parts, depth-with_name, with_colon, without_colon, byte_and_rest}
 use Rattle.someip_payload_values.proofs.Shapes.{form-Bool, form-Array, form-Struct, form-Tagged, some_depth}
 use Rattle.someip_payload.proofs.ShapePieces.{plain_shape, behind_word, array_shape, fixed_shape, struct_shape, union_shape, tagged_shape, repeated_piece, named_shape, plain_member, tagged_shape_found, tagged_depth, one_member-made}
@@ -26,6 +26,11 @@ shape_at-returns-in-Bool-clause-found t c = plain_shape Bool bool _ _ form-Bool 
 
 pub shape_at-returns-in-Integer-clause-found : goal.shape_at-returns-in-Integer-clause-found
 shape_at-returns-in-Integer-clause-found t c = behind_word c.integer_at.result _ _ _ _ _ c.in-Integer.is c.in_ok-word.ensures.end.0 c.in_ok-word.ensures.found c.integer_at.ensures.end c.integer_at.ensures.found
+
+pub shape_at-returns-in-Float-clause-found : goal.shape_at-returns-in-Float-clause-found
+shape_at-returns-in-Float-clause-found t c =
+    let x = c.in-Float.float in
+    plain_shape c.float_shape.result (float_form x) (float_word x) _ c.float_shape.ensures (float_text (float_form x) (float_word x) (float_is x)) (c.in_ok-word.ensures.found ∙ ap word_text c.in-Float.is)
 
 pub shape_at-returns-in-Text-clause-found : goal.shape_at-returns-in-Text-clause-found
 shape_at-returns-in-Text-clause-found t c = behind_word c.string_at.result _ _ _ _ _ c.in-Text.is c.in_ok-word.ensures.end.0 c.in_ok-word.ensures.found c.string_at.ensures.end c.string_at.ensures.found
@@ -137,6 +142,11 @@ tagged_members_at-returns-else-has_byte-clause-found t c =
 pub shape_at-returns-in-Integer-clause-within : goal.shape_at-returns-in-Integer-clause-within
 shape_at-returns-in-Integer-clause-within t c = within_more c.integer_at.result 1 c.args.left (omega (arith, c.if-left-eq0.false)) c.integer_at.ensures.within
 
+pub shape_at-returns-in-Float-clause-within : goal.shape_at-returns-in-Float-clause-within
+shape_at-returns-in-Float-clause-within t c =
+    let one : depth (form c.float_shape.result) ≡ 1 = ap depth c.float_shape.ensures ∙ float_depth c.in-Float.float in
+    omega (arith, one, c.if-left-eq0.false)
+
 pub shape_at-returns-in-Text-clause-within : goal.shape_at-returns-in-Text-clause-within
 shape_at-returns-in-Text-clause-within t c = within_more c.string_at.result 1 c.args.left (omega (arith, c.if-left-eq0.false)) c.string_at.ensures.within
 
@@ -203,6 +213,10 @@ shape_at-returns-in-Bool-clause-only t c = plain _ _ _ _ _ _ Bool bool c.in-Bool
 
 pub shape_at-returns-in-Integer-clause-only : goal.shape_at-returns-in-Integer-clause-only
 shape_at-returns-in-Integer-clause-only t c = by_word _ _ _ _ _ _ _ c.in-Integer.is c.in_ok-word.ensures.only (λ f back rest there behind deep stops. c.integer_at.ensures.only f back rest there behind stops)
+
+pub shape_at-returns-in-Float-clause-only : goal.shape_at-returns-in-Float-clause-only
+shape_at-returns-in-Float-clause-only t c =
+    plain _ _ _ _ _ _ c.float_shape.result (float_form c.in-Float.float) c.in-Float.is c.float_shape.ensures (λ f back behind. behind) c.in_ok-word.ensures.only
 
 pub shape_at-returns-in-Text-clause-only : goal.shape_at-returns-in-Text-clause-only
 shape_at-returns-in-Text-clause-only t c = by_word _ _ _ _ _ _ _ c.in-Text.is c.in_ok-word.ensures.only (λ f back rest there behind deep stops. c.string_at.ensures.only f back rest there behind stops)

@@ -5,7 +5,7 @@ use Rattle.someip_payload.proofs.WordTable.{first_word_only}
 use Rattle.someip_payload.proofs.words.first_word.Goals as goal
 
 pub returns-clause-found : goal.returns-clause-found
-returns-clause-found c = c.word_at.ensures.found word_text (refl, (refl, (refl, (refl, (refl, (refl, (refl, (refl, (refl, (refl, (refl, (refl, (refl, (refl, (refl, (refl, (refl, (refl, (refl, (refl, (refl, (refl, (refl, (refl, tt))))))))))))))))))))))))
+returns-clause-found c = c.word_at.ensures.found word_text (refl, (refl, (refl, (refl, (refl, (refl, (refl, (refl, (refl, (refl, (refl, (refl, (refl, (refl, (refl, (refl, (refl, (refl, (refl, (refl, (refl, (refl, (refl, (refl, (refl, (refl, (refl, (refl, tt))))))))))))))))))))))))))))
 
 pub returns-clause-only : goal.returns-clause-only
 returns-clause-only c = λ w rest is ends.
