@@ -84,16 +84,21 @@ def is_fault(program, shape, digits, fault):
     return run(program, ["payload", shape, digits]) == (1, f"fault {fault}\n", "")
 
 
+def is_of_whole_lines(text):
+    """A text ends with the end of its last line, and no empty line stands there."""
+    return text.endswith("\n") and not text.endswith("\n\n")
+
+
 def is_help(program, words, part):
     name, *words = words.split("|")
     status, shown, error = run(program, words, name)
-    return (status, error) == (0, "") and part in shown
+    return (status, error) == (0, "") and part in shown and is_of_whole_lines(shown)
 
 
 def is_usage(program, words, part):
     name, *words = words.split("|")
     status, shown, error = run(program, words, name)
-    return (status, shown) == (2, "") and part in error
+    return (status, shown) == (2, "") and part in error and is_of_whole_lines(error)
 
 
 def is_value(program, words, status, told):

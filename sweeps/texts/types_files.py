@@ -51,6 +51,11 @@ TYPES = (
     ((TABLE, b"name='", LONGEST, b"a'\n"), "OutOfRange name"),
     ((TABLE, b"name='", LONGEST, b"'\n"), "tables"),
     ((TABLE, b"name='!~'\n"), "tables"),
+    # Two faults: of a table the key that comes first is told, and of two tables the first.
+    ((MESSAGE, SERVICE, METHOD, TYPE, b"name=1\n"), "Missing shape"),
+    ((MESSAGE, SERVICE, METHOD, TYPE, b"shape='u9'\nname=''\n"), "BadShape shape"),
+    ((MESSAGE, MESSAGE, SERVICE), "Missing service"),
+    ((MESSAGE, SERVICE, MESSAGE), "Missing method"),
     # Keys that are not known: after the known ones, of the file before those of the tables, the least by bytes.
     ((TABLE, b"names='a'\n"), "UnknownKey names"),
     ((b"zoo=1\n", TABLE, b"abc=1\n"), "UnknownKey zoo"),

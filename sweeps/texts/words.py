@@ -15,6 +15,26 @@ HELP = (
     ("someipctl|help|show", "Usage: someipctl show [OPTIONS] <CAPTURE>\n"),
     ("someipctl|show|--help", "  12340421 00000008 00010001 01010000\n"),
     ("someipctl|show|-h", " type REQUEST code 00 payload -\n"),
+    # What a command does, its options with the defaults of FORMATS, and its example.
+    ("someipctl|help|audit", "Prints what a recording of network traffic shows against the protocol\n\n"
+     "Usage: someipctl audit [OPTIONS] <RECORDING>\n"),
+    ("someipctl|help|audit", "      --answer-ms <N>  The milliseconds that an answer may take, 2000 without it\n"),
+    ("someipctl|help|audit", "      --settle-ms <N>  The milliseconds at first in which no event without a "
+     "subscription is told, 10000 without it\n"),
+    ("someipctl|help|audit", "  someipctl audit examples/audit.pcap\n"),
+    ("someipctl|help|chart", "Draws a run of a schedule over the nodes of a setup, as an SVG picture\n\nUsage: "),
+    ("someipctl|help|chart", "  someipctl chart examples/runs/two.toml examples/runs/two.txt > two.svg\n"),
+    ("someipctl|help|recording", "Prints the messages of a recording of network traffic\n\n"
+     "Usage: someipctl recording [OPTIONS] <FILE>\n"),
+    ("someipctl|help|recording", "      --whole-limit <N>     The bytes that such a message may have, "
+     "1048576 without it\n"),
+    ("someipctl|help|recording", "      --whole-slots <N>     How many may have come in part at once, 16 without it\n"),
+    ("someipctl|help|recording", "      --whole-timeout <MS>  The milliseconds that a part stands after its last "
+     "segment, 5000 without it\n"),
+    ("someipctl|help|show", "      --service <SERVICES>  Prints only datagrams with a message of one of these "
+     "services\n"),
+    ("someipctl|help|show", "      --types <FILE>        Prints the values of the payloads whose shapes this file "
+     "tells\n"),
 )
 USAGE = (
     ("someipctl|vectors", "Usage: someipctl vectors <FILE>\n"),
@@ -24,6 +44,8 @@ USAGE = (
     ("someipctl|recording|--whole-slots|x", "error: the following required arguments were not provided:\n"),
     ("someipctl|recording", "Usage: someipctl recording <FILE>\n"),
     ("someipctl|run|x", "Usage: someipctl run <SETUP> <SCHEDULE>\n"),
+    ("someipctl|chart|x", "Usage: someipctl chart <SETUP> <SCHEDULE>\n"),
+    ("someipctl|audit", "Usage: someipctl audit <RECORDING>\n"),
     ("someipctl|payload|u8", "Usage: someipctl payload <SHAPE> <HEX>\n"),
     ("/bin/other", "Usage: someipctl <COMMAND>\n"),
     ("someipctl|list", "error: unrecognized subcommand 'list'\n"),
@@ -58,6 +80,13 @@ TOLD_FIRST = (
     ("recording|--whole-limit|1400|missing", "error: limits of whole messages need '--whole'", RECORDING),
     ("recording|--whole-slots|1|missing", "error: limits of whole messages need '--whole'", RECORDING),
     ("recording|--whole-timeout|1|missing", "error: limits of whole messages need '--whole'", RECORDING),
+    # Before a types file that cannot be read: ports, a limit, and a limit alone.
+    ("recording|--types|nowhere|--ports|0|missing", "error: invalid value '0' for '--ports <PORTS>': ports are numbers "
+     "from 1 to 65535 with commas between them", RECORDING),
+    ("recording|--types|nowhere|--whole|--whole-slots|0|missing",
+     "error: invalid value for '--whole-slots <N>': 1 to 1024", RECORDING),
+    ("recording|--types|nowhere|--whole-limit|1400|missing",
+     "error: limits of whole messages need '--whole'", RECORDING),
 )
 # Values of `--service` that are none.
 BAD_SERVICES = ("x", "123", "12345", "1234.", "1234.042", "1234,", ",1234", "1234 ", "1234.0421.1", "0x1234")
@@ -65,6 +94,9 @@ SHOW = "Usage: someipctl show [OPTIONS] <CAPTURE>"
 # Files of which two cannot be read, and the first is told: a types file before a recording, a setup before a schedule.
 NAMED_FIRST = ("recording|--types|nowhere|missing", "show|--types|nowhere|missing", "run|nowhere|missing",
                "run|--expect|missing|nowhere|missing", "chart|nowhere|missing")
+# Commands for which `-` is the name of a file, which is not there, and not standard input.
+NAMED_DASH = ("show|-", "vectors|-", "run|-|missing", "chart|-|missing", "show|--types|-|missing",
+              "recording|--types|-|missing", "run|--expect|missing|-|missing")
 
 
 def values():
@@ -91,3 +123,5 @@ def values():
                    f"commas between them\n\n{usage}\n")
     for words in NAMED_FIRST:
         yield words, 4, "cannot read nowhere\n"
+    for words in NAMED_DASH:
+        yield words, 4, "cannot read -\n"

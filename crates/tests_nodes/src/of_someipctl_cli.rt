@@ -111,6 +111,14 @@ fn failures_of_options_have_texts_and_statuses(rt: HostRuntime) {
     assert!(rt; is_told(alloc, slots, told, 2));
 }
 
+/// What keeps words from a command, or a text from a types file, has one text where memory ran out.
+#[test]
+fn want_of_memory_has_one_text(rt: HostRuntime) {
+    let alloc = rt.alloc();
+    assert!(rt; is_printed(alloc, &LineError::OutOfMemory, "out of memory") == Some(true));
+    assert!(rt; is_printed(alloc, &TypesError::OutOfMemory, "out of memory") == Some(true));
+}
+
 /// Whether the answer to words without a command ends with a status, and the writer took nothing, or a text that
 /// begins so.
 fn is_answered(

@@ -1,8 +1,10 @@
 //! Short runs over two nodes. Traces as they are printed are tested with the command `run`.
-use someip_node::Output;
+use crate::printed::is_printed;
+use someip_node::{NodeError, Output};
+use someip_rpc::RpcError;
 use someip_tp::SegmentList;
 use someip_world::{Line, RunError, Setup, StepFault, Told, Trace, read_schedule, run};
-use std::alloc::Global;
+use std::alloc::{AllocError, Global};
 
 /// A node that offers an instance, and one that wants it.
 const TWO: &str = "group = \"239.0.0.1\"
@@ -96,6 +98,54 @@ fn names_the_bad_step(alloc: Global) -> bool {
         Some(Err(error)) => error == RunError::BadStep(2, StepFault::NoSuchDatagram),
         _ => false,
     }
+}
+
+/// So many calls may wait for their answers.
+const WAITING: usize = 1024;
+
+/// A schedule of one call more.
+fn calls_too_many(alloc: Global) -> Result<String, AllocError> {
+    let mut schedule = String::from_str(alloc, "tick a 10\ndeliver 1 b\n")?;
+    for _ in 0..=WAITING {
+        schedule.push_str("call b 1111.0001 0421 -\n")?;
+    }
+    Ok(schedule)
+}
+
+/// Whether a line tells in a step that no further call can wait.
+fn is_busy(line: &Line, step: usize) -> bool {
+    line.step == step && matches!(&line.told, Told::Refused(NodeError::Rpc(RpcError::Busy)),)
+}
+
+/// Whether the last of these calls is refused, and told so in the trace.
+fn tells_the_call_too_many(alloc: Global) -> bool {
+    let Ok(schedule) = calls_too_many(alloc) else {
+        return false;
+    };
+    match ran(alloc, schedule.as_str()) {
+        Some(Ok(trace)) => matches!(trace.lines.last(), Some(line) if is_busy(line, 1027)),
+        _ => false,
+    }
+}
+
+/// Why a run has no trace, and its text.
+const PRINTED: &[(RunError, &str)] = &[
+    (RunError::BadStep(3, StepFault::NotLiar), "step 3: NotLiar"),
+    (RunError::OutOfMemory, "out of memory"),
+];
+
+/// What keeps a run from a trace is printed with the step that is bad, and why.
+#[test]
+fn bad_runs_have_texts(rt: HostRuntime) {
+    for (error, text) in PRINTED {
+        assert!(rt; is_printed(rt.alloc(), error, text) == Some(true), "{text}");
+    }
+}
+
+/// A call that a node has no place for is a line of the trace.
+#[test]
+fn a_call_too_many_is_told(rt: HostRuntime) {
+    assert!(rt; tells_the_call_too_many(rt.alloc()));
 }
 
 #[test]
