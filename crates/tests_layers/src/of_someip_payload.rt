@@ -4,6 +4,7 @@ use crate::rows::{Row, check, is_printed};
 use someip_payload::{PayloadError, Shape, Told, Value, decode, encode, laws, read_shape};
 use std::alloc::Global;
 
+mod floats;
 mod limits;
 mod more_forms;
 mod shapes;
@@ -23,6 +24,13 @@ fn bytes_of(alloc: Global, shape: &str, value: &Value) -> Option<Vec<u8>> {
         Ok(()) => Some(out),
         Err(_) => None,
     }
+}
+
+/// Whether this text of the value is put behind what stands before it.
+fn is_put(alloc: Global, shape: &Shape, value: &Value, text: &str) -> Option<bool> {
+    let mut put = String::from_str(alloc, "value ").ok()?;
+    Told { shape, value }.put(&mut put).ok()?;
+    Some(put.as_str().strip_prefix("value ") == Some(text))
 }
 
 /// Bytes of a shape: what is read from them, how many of them, and whether the value is written as
@@ -45,8 +53,7 @@ impl Read {
     /// Whether this is the text of the value, with the names that the shape has.
     fn is_told(&self, alloc: Global, value: &Value) -> Option<bool> {
         let shape = read_shape(alloc, self.0).ok()?;
-        let shape = &shape;
-        is_printed(alloc, &Told { shape, value }, self.2)
+        is_put(alloc, &shape, value, self.2)
     }
 
     /// Whether the value is written as the bytes that were read, where it is to be.
@@ -264,6 +271,17 @@ const PARTS: &[Read] = &[
     ),
 ];
 
+/// A shape, bytes of it, and the fault that they have.
+struct Faulty(&'static str, &'static [u8], PayloadError);
+
+impl Row for Faulty {
+    fn is_right(&self, alloc: Global) -> Option<bool> {
+        let Faulty(shape, bytes, fault) = self;
+        let shape = read_shape(alloc, shape).ok()?;
+        Some(decode(alloc, &shape, bytes).err() == Some(*fault))
+    }
+}
+
 /// A shape, and a value that is none of it, as bytes of another shape: why it is not written.
 struct Refused(&'static str, &'static str, &'static [u8], PayloadError);
 
@@ -426,4 +444,5 @@ fn laws_hold(_rt: HostRuntime) {
     laws::what_is_written_is_read_again();
     laws::what_is_written_is_spelled_so();
     laws::a_value_takes_a_byte();
+    laws::a_text_says_one_float();
 }

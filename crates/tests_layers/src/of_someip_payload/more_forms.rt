@@ -1,9 +1,8 @@
 //! The rows of little-endian numbers, texts in so many bytes, fixed counts and unions with widths of
 //! their own: what is read and written, at which fault it ends, and which shapes are refused.
-use super::{Read, Refused};
-use crate::rows::{Row, check};
-use someip_payload::{PayloadError, decode, read_shape};
-use std::alloc::Global;
+use super::{Faulty, Read, Refused};
+use crate::rows::check;
+use someip_payload::PayloadError;
 
 /// Both ways where the last is true.
 const READ: &[Read] = &[
@@ -141,17 +140,6 @@ const NAMED: &[Read] = &[
         true,
     ),
 ];
-
-/// A shape, bytes of it, and the fault that they have.
-struct Faulty(&'static str, &'static [u8], PayloadError);
-
-impl Row for Faulty {
-    fn is_right(&self, alloc: Global) -> Option<bool> {
-        let Faulty(shape, bytes, fault) = self;
-        let shape = read_shape(alloc, shape).ok()?;
-        Some(decode(alloc, &shape, bytes).err() == Some(*fault))
-    }
-}
 
 const FAULTY: &[Faulty] = &[
     Faulty("u16le", &[1], PayloadError::Truncated(0)),
