@@ -19,7 +19,7 @@ use Rattle.someipctl_show.specs.Payload.{argument_bytes}
 use Rattle.someipctl_show.specs.VectorLines.{AreArguments, fault_of_shape}
 use Rattle.someip_payload_values.specs.declared.shape.Width.{Width}
 use Rattle.someip_payload_values.specs.declared.shape.Width.TheVariants.{W8, W16, W32}
-use Rattle.someip_payload.specs.ShapeText.{IsReadAs, width_text, repeated_text, IsInteger, u8_text, u16_text, u32_text, u64_text, i8_text, i16_text, i32_text, i64_text, u16le_text, u32le_text, u64le_text, i16le_text, i32le_text, i64le_text, widths_text, room_text, IsTextOfLabel, IsTextOfLabels, last_label, next_label, value_text, IsValue, IsTextOf, bool_text, integer_text, enum_text, utf8_text, utf16_text, utf8fix_text, utf16fix_text, array_text, fixed_text, struct_text, union_text, tagged_text, mark_text, tagged_member_text, name_text, IsNameIfAny, IsTextOfTagged, tagged_one, IsTextOfTaggedMembers, last_tagged, next_tagged, IsTextOfMember, member_text, IsTextOfMembers, last_member, next_member, IsTextOfVariants, last_variant, next_variant}
+use Rattle.someip_payload.specs.ShapeText.{IsFloat, f32_text, f64_text, f32le_text, f64le_text, float_text, IsReadAs, width_text, repeated_text, IsInteger, u8_text, u16_text, u32_text, u64_text, i8_text, i16_text, i32_text, i64_text, u16le_text, u32le_text, u64le_text, i16le_text, i32le_text, i64le_text, widths_text, room_text, IsTextOfLabel, IsTextOfLabels, last_label, next_label, value_text, IsValue, IsTextOf, bool_text, integer_text, enum_text, utf8_text, utf16_text, utf8fix_text, utf16fix_text, array_text, fixed_text, struct_text, union_text, tagged_text, mark_text, tagged_member_text, name_text, IsNameIfAny, IsTextOfTagged, tagged_one, IsTextOfTaggedMembers, last_tagged, next_tagged, IsTextOfMember, member_text, IsTextOfMembers, last_member, next_member, IsTextOfVariants, last_variant, next_variant}
 
 abbrev pub is_blank : ℕ → Bool
 is_blank b = b == 32
@@ -115,6 +115,12 @@ integer_unparted f text i16le_text = refl
 integer_unparted f text i32le_text = refl
 integer_unparted f text i64le_text = refl
 
+float_unparted : (f : Form) (text : List ℕ) → IsFloat f text → IsUnparted text
+float_unparted f text f32_text = refl
+float_unparted f text f64_text = refl
+float_unparted f text f32le_text = refl
+float_unparted f text f64le_text = refl
+
 value_unparted : (z : ℤ) → IsValue z → IsUnparted (value_text z)
 value_unparted (pos n) is = long_unparted n (omega (arith, is))
 value_unparted (negsuc n) is = both (codes "-") (decimal (n + 1)) refl (long_unparted (n + 1) (omega (arith, is)))
@@ -137,6 +143,7 @@ mutual
   pub shape_unparted : (f : Form) (text : List ℕ) → IsTextOf f text → IsUnparted text
   shape_unparted f text bool_text = refl
   shape_unparted f text (integer_text g inner h) = integer_unparted g inner h
+  shape_unparted f text (float_text g inner h) = float_unparted g inner h
   shape_unparted f text (enum_text g word ls inner h labels) =
       both word (codes "{" ++ (inner ++ codes "}")) (integer_unparted g word h) (between (codes "{") inner (codes "}") refl (labels_unparted ls inner labels) refl)
   shape_unparted f text (utf8_text w) = both (codes "utf8") (width_text w) refl (width_unparted w)

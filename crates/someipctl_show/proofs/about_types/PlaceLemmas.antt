@@ -11,7 +11,7 @@ use Rattle.someip_payload_values.specs.declared.shape.Width.{Width}
 use Rattle.someip_payload_values.specs.declared.tag.WireType.{WireType}
 use Rattle.someip_payload_values.specs.declared.tag.WireType.TheVariants.{Basic, OwnLength, Length}
 use Rattle.someip_payload_values.specs.Check.{checked, depth, is_form}
-use Rattle.someip_payload_values.specs.Data.{Form, bool, unsigned, signed, string, padded, array, fixed, «struct», union, tagged, named, enumerated, Forms, no_forms, form_then, Variants, no_variants, variant, Members, member_then, Slots, present, absent}
+use Rattle.someip_payload_values.specs.Data.{Form, bool, unsigned, signed, float, string, padded, array, fixed, «struct», union, tagged, named, enumerated, Forms, no_forms, form_then, Variants, no_variants, variant, Members, member_then, Slots, present, absent}
 use Rattle.someip_payload_values.specs.Names.{fault_place}
 use Rattle.someip_payload_values.specs.Numbers.{width_of, size_of, field_len, number, framed}
 use Rattle.someip_payload_values.specs.Tags.{items_bytes, tag_number, own_width, has_wire_type, width_in}
@@ -82,6 +82,7 @@ mutual
   in_form n width bool e w h le = short_place n w e h.1 (omega arith)
   in_form n width (unsigned order size) e w h le = short_place n w e h.1 (omega arith)
   in_form n width (signed order size) e w h le = short_place n w e h.1 (omega arith)
+  in_form n width (float order precision) e w h le = short_place n w e h.1 (omega arith)
   in_form n width (string encoding own) e w (inl (none, same)) le = short_place n w e same (omega arith)
   in_form n width (string encoding own) e w (inr (body, has, inl (open_end, same))) le = placed n e _ same (omega arith)
   in_form n width (string encoding own) e w (inr (body, has, inr (ended, bad, same))) le = placed n e _ same (omega arith)
