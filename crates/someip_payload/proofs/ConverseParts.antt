@@ -7,6 +7,7 @@ use Rattle.someip_payload_values.specs.declared.shape.Shape.{Shape, Text, Array,
 use Rattle.someip_payload_values.specs.declared.shape.Member.{Member}
 use Rattle.someip_payload_values.specs.declared.shape.Encoding.{Encoding}
 use Rattle.someip_payload_values.specs.declared.shape.Width.{Width}
+use Rattle.someip_payload.specs.Named.{NamedForms}
 use Rattle.someip_payload.specs.declared.words.Integer.{Integer}
 use Rattle.someip_payload.specs.declared.words.Integer.TheVariants as integer
 use Rattle.someip_payload.specs.declared.words.Float.{Float}
@@ -18,7 +19,7 @@ use Rattle.someip_payload_values.specs.Data.{Form, string, array, fixed, «struc
 use Rattle.someip_payload.specs.ShapeText.{IsDigit, HasNoWidth, EndsShape, IsReadTo, width_text, widths_text, or_32, union_of, repeated_text, room_text}
 use Rattle.someip_payload_values.specs.View.{form, forms, all_members}
 use Rattle.someip_payload.specs.Words.{Behind, integer_form, float_form}
-use Rattle.someip_payload.proofs.Converse.{read_of, same_first, same_second, NumberOnly, WordOnly, ShapeOnly, by_word}
+use Rattle.someip_payload.proofs.Converse.{read_of, same_first, same_second, NumberOnly, WordOnly, NoSign, ShapeOnly, by_word}
 use Rattle.someip_payload.proofs.Places.{behind_piece}
 use Rattle.someip_payload_values.proofs.Shapes.{form-Text, form-Array, form-Struct, form-Tagged, some_depth}
 
@@ -27,10 +28,10 @@ split_front : (bytes back rest a b : List ℕ) → bytes ≡ back ++ rest → ba
 split_front bytes back rest a b is parts = is ∙ ap (λ (t : List ℕ). t ++ rest) parts ∙ append_assoc a b rest
 
 -- a shape with shapes inside it, read by its word
-pub inner : (text : List ℕ) (at end most : ℕ) (w v : Word) (r : Result (Shape × ℕ) ShapeTextError) → w ≡ v → WordOnly text at w end
-    → ((f : Form) (back rest : List ℕ) → drop end text ≡ back ++ rest → Behind v f back → depth f ≤ (most - 1) + 1 → IsReadTo form f (end + length back) r) → ShapeOnly text at most r
-inner text at end most w v r word only read =
-    by_word text at end most w v r word only (λ f back rest there behind deep stops. read f back rest there behind (omega (arith, deep, some_depth f)))
+pub inner : (names : NamedForms) (text : List ℕ) (at end most : ℕ) (w v : Word) (r : Result (Shape × ℕ) ShapeTextError) → NoSign text at → w ≡ v → WordOnly text at w end
+    → ((f : Form) (back rest : List ℕ) → drop end text ≡ back ++ rest → Behind names v f back → depth f ≤ (most - 1) + 1 → IsReadTo form f (end + length back) r) → ShapeOnly names text at most r
+inner names text at end most w v r none word only read =
+    by_word names text at end most w v r none word only (λ f back rest there behind deep stops. read f back rest there behind (omega (arith, deep, some_depth f)))
 
 -- ---- shapes of their parts
 

@@ -1,5 +1,5 @@
 -- A member of a structure: a name and a colon, or the word of a shape.
-use Rattle.std.proofs.Common.{◌≡◌, ℕ, ◌+◌, ◌-◌, ◌<◌, ◌≤◌, ◌^◌, true, Bool, List, [], ◌∷◌, ◌++◌, length, get_or, take, drop, slice_range, codes, Option, Some, None, Result, Ok, Err, refl, sym, ap, subst, ◌∙◌, append_assoc, arith}
+use Rattle.std.proofs.Common.{◌≡◌, ℕ, ◌+◌, ◌-◌, ◌<◌, ◌≤◌, ◌^◌, true, Bool, List, ◌∷◌, ◌++◌, length, get_or, take, drop, slice_range, codes, Option, Some, None, Result, Ok, Err, refl, sym, ap, subst, ◌∙◌, ⊎_elim, append_assoc, arith}
 use Rattle.std.specs.Prelude.{nat_lt, if◌then◌else◌}
 use Rattle.std.proofs.lemmas.Bool.Decides.{nat_tests}
 use Rattle.std.proofs.lemmas.List.{length-append, take_at, drop_more}
@@ -8,27 +8,28 @@ use Rattle.someip_payload_values.specs.Data.{Form, named}
 use Rattle.someip_payload_values.specs.View.{form}
 use Rattle.someip_payload_values.specs.declared.shape.Encoding.TheVariants.{Utf8, Utf16}
 use Rattle.someip_payload_values.specs.declared.shape.Shape.{Shape}
+use Rattle.someip_payload.specs.Named.{NamedForms}
 use Rattle.someip_payload.specs.declared.shape_text_error.ShapeTextError.{ShapeTextError}
 use Rattle.someip_payload.specs.declared.shape_text_error.ShapeTextError.TheVariants.{BadShape, OutOfMemory}
 use Rattle.someip_payload.specs.declared.words.Integer.TheVariants as integer
 use Rattle.someip_payload.specs.declared.words.Word.{Word}
 use Rattle.someip_payload.specs.declared.words.Float.TheVariants as floats
 use Rattle.someip_payload.specs.declared.words.Word.TheVariants as word
-use Rattle.someip_payload.specs.ShapeText.{IsTextOf, IsTextOfMember, member_text, IsTextOfTagged, tagged_one, tagged_member_text, name_text, with_name, IsNameIfAny, EndsName, EndsWord, EndsShape, IsReadTo, reach}
+use Rattle.someip_payload.specs.ShapeText.{IsTextIn, IsTextOfMember, member_text, IsTextOfTagged, tagged_one, tagged_member_text, name_text, with_name, IsNameIfAny, EndsWord, EndsShape, BeginsNoName, IsReadTo, reach}
 use Rattle.someip_payload.specs.Words.{word_text}
-use Rattle.someip_payload.proofs.Converse.{split, behind_ends, ShapeOnly}
+use Rattle.someip_payload.proofs.Converse.{Split, Refers, split, behind_ends, ends_word_name, ShapeOnly}
 use Rattle.someip_payload.proofs.NameBytes.{EndOnly, name_len}
 use Rattle.someip_payload.proofs.Places.{behind_piece}
 
 -- ---- the parts of a member
 
-pub member_parts : (f : Form) (text : List ℕ) → IsTextOfMember f text
-    → (name : Option (List ℕ)) × (g : Form) × (shape : List ℕ) × IsNameIfAny name × IsTextOf g shape × (f ≡ with_name name g) × (text ≡ name_text name ++ shape)
-member_parts f text (member_text name g shape is_name is_text) = (name, g, shape, is_name, is_text, refl, refl)
+pub member_parts : (names : NamedForms) (f : Form) (text : List ℕ) → IsTextOfMember names f text
+    → (name : Option (List ℕ)) × (g : Form) × (shape : List ℕ) × IsNameIfAny name × IsTextIn names g shape × (f ≡ with_name name g) × (text ≡ name_text name ++ shape)
+member_parts names f text (member_text name g shape is_name is_text) = (name, g, shape, is_name, is_text, refl, refl)
 
-pub tagged_parts : (id : ℕ) (optional : Bool) (f : Form) (text : List ℕ) → IsTextOfTagged id optional f text
-    → (name : Option (List ℕ)) × (g : Form) × (shape : List ℕ) × IsNameIfAny name × (id < 2 ^ 12) × IsTextOf g shape × (f ≡ with_name name g) × (text ≡ name_text name ++ tagged_member_text id optional shape)
-tagged_parts id optional f text (tagged_one name n o g shape is_name small is_text) = (name, g, shape, is_name, small, is_text, refl, refl)
+pub tagged_parts : (names : NamedForms) (id : ℕ) (optional : Bool) (f : Form) (text : List ℕ) → IsTextOfTagged names id optional f text
+    → (name : Option (List ℕ)) × (g : Form) × (shape : List ℕ) × IsNameIfAny name × (id < 2 ^ 12) × IsTextIn names g shape × (f ≡ with_name name g) × (text ≡ name_text name ++ tagged_member_text id optional shape)
+tagged_parts names id optional f text (tagged_one name n o g shape is_name small is_text) = (name, g, shape, is_name, small, is_text, refl, refl)
 
 pub depth-with_name : (name : Option (List ℕ)) (f : Form) → depth (with_name name f) ≡ depth f
 depth-with_name None f = refl
@@ -66,10 +67,6 @@ word_is_name word.Struct = refl
 word_is_name word.Union = refl
 word_is_name word.Tagged = refl
 
-ends_name : (rest : List ℕ) → EndsWord rest → EndsName rest
-ends_name [] ends = tt
-ends_name (b ∷ rest) ends = ends.0
-
 no_colon : (rest tail : List ℕ) → rest ≡ 58 ∷ tail → EndsWord rest → ⊥
 no_colon rest tail is ends = (subst EndsWord is ends).1 refl
 
@@ -86,21 +83,31 @@ reach_keeps f place least (Err (BadShape at)) le bad = absurd bad
 -- ---- a member, from the end of the name at its place
 
 -- what is read at a place, where a member stands there
-abbrev pub MemberOnly : List ℕ → ℕ → ℕ → Result (Shape × ℕ) ShapeTextError → Type 0
-MemberOnly text at most r = (f : Form) (front rest : List ℕ) → drop at text ≡ front ++ rest → IsTextOfMember f front → depth f ≤ most → EndsShape rest → IsReadTo form f (at + length front) r
+abbrev pub MemberOnly : NamedForms → List ℕ → ℕ → ℕ → Result (Shape × ℕ) ShapeTextError → Type 0
+MemberOnly names text at most r = (f : Form) (front rest : List ℕ) → drop at text ≡ front ++ rest → IsTextOfMember names f front → depth f ≤ most → EndsShape rest → IsReadTo form f (at + length front) r
 
-module _ (text : List ℕ) (at end : ℕ) (only : EndOnly text at end) where
+module _ (names : NamedForms) (text : List ℕ) (at end : ℕ) (only : EndOnly text at end) (no_name : BeginsNoName (drop at text) → end ≡ at) where
   -- a shape without a name
-  plain_there : (f : Form) (front rest : List ℕ) → drop at text ≡ front ++ rest → IsTextOf f front → EndsShape rest → (end ≤ at + length front) × ((tail : List ℕ) → drop end text ≡ 58 ∷ tail → ⊥)
-  plain_there f front rest is is_text stops =
-      let s = split f front is_text in
-      let here : drop at text ≡ word_text s.first ++ (s.back ++ rest) = is ∙ ap (λ (t : List ℕ). t ++ rest) s.is ∙ append_assoc (word_text s.first) s.back rest in
-      let ends = behind_ends s.first f s.back rest s.behind stops in
-      let place : end ≡ at + length (word_text s.first) = only (word_text s.first) (s.back ++ rest) here (word_is_name s.first) (ends_name (s.back ++ rest) ends) in
-      let behind : drop end text ≡ s.back ++ rest = behind_piece text (word_text s.first) (s.back ++ rest) at end here place in (
-        omega (arith, place, ap length s.is, length-append (word_text s.first) s.back),
-        λ tail colon. no_colon (s.back ++ rest) tail (sym behind ∙ colon) ends,
-      )
+  plain_there : (f : Form) (front rest : List ℕ) → drop at text ≡ front ++ rest → IsTextIn names f front → EndsShape rest → (end ≤ at + length front) × ((tail : List ℕ) → drop end text ≡ 58 ∷ tail → ⊥)
+  plain_there f front rest is is_text stops = ⊎_elim by_its_word by_its_sign (split names f front is_text)
+    where
+      by_its_word : Split names f front → (end ≤ at + length front) × ((tail : List ℕ) → drop end text ≡ 58 ∷ tail → ⊥)
+      by_its_word s =
+          let here : drop at text ≡ word_text s.first ++ (s.back ++ rest) = is ∙ ap (λ (t : List ℕ). t ++ rest) s.is ∙ append_assoc (word_text s.first) s.back rest in
+          let ends = behind_ends names s.first f s.back rest s.behind stops in
+          let place : end ≡ at + length (word_text s.first) = only (word_text s.first) (s.back ++ rest) here (word_is_name s.first) (ends_word_name (s.back ++ rest) ends) in
+          let behind : drop end text ≡ s.back ++ rest = behind_piece text (word_text s.first) (s.back ++ rest) at end here place in (
+            omega (arith, place, ap length s.is, length-append (word_text s.first) s.back),
+            λ tail colon. no_colon (s.back ++ rest) tail (sym behind ∙ colon) ends,
+          )
+
+      by_its_sign : Refers names f front → (end ≤ at + length front) × ((tail : List ℕ) → drop end text ≡ 58 ∷ tail → ⊥)
+      by_its_sign r =
+          let here : drop at text ≡ 64 ∷ (r.name ++ rest) = is ∙ ap (λ (t : List ℕ). t ++ rest) r.is in
+          let same : end ≡ at = no_name (subst BeginsNoName (sym here) refl) in (
+            omega (arith, same),
+            λ tail colon. omega (arith, ap (λ (t : List ℕ). get_or t 0 0) (sym here ∙ ap (λ n. drop n text) (sym same) ∙ colon)),
+          )
 
   -- a shape with a name
   named_there : (n shape rest : List ℕ) → drop at text ≡ ((n ++ codes ":") ++ shape) ++ rest → is_name n ≡ true → (end ≡ at + length n) × (drop end text ≡ 58 ∷ (shape ++ rest)) × (slice_range text at end ≡ n)
@@ -112,8 +119,8 @@ module _ (text : List ℕ) (at end : ℕ) (only : EndOnly text at end) where
 
   -- a colon stands behind the name
   module _ (most : ℕ) (r : Result (Shape × ℕ) ShapeTextError) (tail : List ℕ) (colon : drop end text ≡ 58 ∷ tail)
-      (read : (f : Form) (front rest : List ℕ) → drop end text ≡ (codes ":" ++ front) ++ rest → IsTextOf f front → depth f ≤ most → EndsShape rest → IsReadTo form (named (slice_range text at end) f) (end + (length front + 1)) r) where
-    by_name : (name : Option (List ℕ)) (f g : Form) (front shape rest : List ℕ) → drop at text ≡ front ++ rest → IsNameIfAny name → IsTextOf g shape → f ≡ with_name name g → front ≡ name_text name ++ shape → depth f ≤ most → EndsShape rest
+      (read : (f : Form) (front rest : List ℕ) → drop end text ≡ (codes ":" ++ front) ++ rest → IsTextIn names f front → depth f ≤ most → EndsShape rest → IsReadTo form (named (slice_range text at end) f) (end + (length front + 1)) r) where
+    by_name : (name : Option (List ℕ)) (f g : Form) (front shape rest : List ℕ) → drop at text ≡ front ++ rest → IsNameIfAny name → IsTextIn names g shape → f ≡ with_name name g → front ≡ name_text name ++ shape → depth f ≤ most → EndsShape rest
         → IsReadTo form f (at + length front) r
     by_name None f g front shape rest is name is_text same parts deep stops =
         absurd ((plain_there g shape rest (is ∙ ap (λ (t : List ℕ). t ++ rest) parts) is_text stops).1 tail colon)
@@ -124,25 +131,25 @@ module _ (text : List ℕ) (at end : ℕ) (only : EndOnly text at end) where
         let place : end + (length shape + 1) ≡ at + length front = omega (arith, here.0, ap length parts, length-append (n ++ codes ":") shape, length-append n (codes ":")) in
         subst (λ (h : Form). IsReadTo form h (at + length front) r) whole (subst (λ k. IsReadTo form (named (slice_range text at end) g) k r) place own)
 
-    pub with_colon : MemberOnly text at most r
+    pub with_colon : MemberOnly names text at most r
     with_colon f front rest is is_member deep stops =
-        let own = member_parts f front is_member in
+        let own = member_parts names f front is_member in
         by_name own.0 f own.1 front own.2 rest is own.3 own.4 own.5 own.6 deep stops
 
   -- no name with a colon behind it stands there
-  module _ (most : ℕ) (r : Result (Shape × ℕ) ShapeTextError) (none : (tail : List ℕ) → at < end → drop end text ≡ 58 ∷ tail → ⊥) (read : ShapeOnly text at most r) where
-    by_shape : (name : Option (List ℕ)) (f g : Form) (front shape rest : List ℕ) → drop at text ≡ front ++ rest → IsNameIfAny name → IsTextOf g shape → f ≡ with_name name g → front ≡ name_text name ++ shape → depth f ≤ most → EndsShape rest
+  module _ (most : ℕ) (r : Result (Shape × ℕ) ShapeTextError) (none : (tail : List ℕ) → at < end → drop end text ≡ 58 ∷ tail → ⊥) (read : ShapeOnly names text at most r) where
+    by_shape : (name : Option (List ℕ)) (f g : Form) (front shape rest : List ℕ) → drop at text ≡ front ++ rest → IsNameIfAny name → IsTextIn names g shape → f ≡ with_name name g → front ≡ name_text name ++ shape → depth f ≤ most → EndsShape rest
         → IsReadTo form f (at + length front) (reach end r)
     by_shape None f g front shape rest is name is_text same parts deep stops =
-        let own : IsTextOf f front = subst (λ (t : List ℕ). IsTextOf f t) (sym parts) (subst (λ (h : Form). IsTextOf h shape) (sym same) is_text) in
+        let own : IsTextIn names f front = subst (λ (t : List ℕ). IsTextIn names f t) (sym parts) (subst (λ (h : Form). IsTextIn names h shape) (sym same) is_text) in
         reach_keeps f (at + length front) end r (plain_there f front rest is own stops).0 (read f front rest is own deep stops)
     by_shape (Some n) f g front shape rest is name is_text same parts deep stops =
         let here = named_there n shape rest (is ∙ ap (λ (t : List ℕ). t ++ rest) parts) name in
         absurd (none (shape ++ rest) (omega (arith, here.0, (name_len n name).0)) here.1)
 
-    pub without_colon : MemberOnly text at most (reach end r)
+    pub without_colon : MemberOnly names text at most (reach end r)
     without_colon f front rest is is_member deep stops =
-        let own = member_parts f front is_member in
+        let own = member_parts names f front is_member in
         by_shape own.0 f own.1 front own.2 rest is own.3 own.4 own.5 own.6 deep stops
 
 -- a byte and what stands behind it

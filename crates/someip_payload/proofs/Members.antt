@@ -7,18 +7,19 @@ use Rattle.someip_payload_values.specs.declared.shape.Member.{Member}
 use Rattle.someip_payload_values.specs.Check.{depth, deepest, deepest_variant, deepest_member}
 use Rattle.someip_payload_values.specs.Data.{Form, Forms, no_forms, form_then, Variants, no_variants, variant, Members, no_members, member_then}
 use Rattle.someip_payload_values.specs.View.{form, forms, all_variants, OneMember, one_member, all_members, labels_of}
+use Rattle.someip_payload.specs.Named.{NamedForms}
 use Rattle.someip_payload.specs.ShapeText.{EndsName, IsTextOfLabel, IsTextOfLabels, last_label, next_label, one_label, EndsShape, IsTextOfMember, IsTextOfMembers, last_member, next_member, IsTextOfVariants, last_variant, next_variant, OneVariant, one_variant, IsTextOfVariant, IsTextOfTaggedMembers, last_tagged, next_tagged, IsTextOfTaggedMember}
 use Rattle.someip_payload.proofs.OneAfterOther.{ByFirst, Listing}
 
 -- ---- members
 
 -- the text of members is that of the last one, or of one in front of others
-pub first_member : ByFirst Form Forms form_then no_forms IsTextOfMember IsTextOfMembers
-first_member P last next fs text (last_member f own is) = last f own is
-first_member P last next fs text (next_member f gs own others is are) = next f gs own others is are
+pub first_member : (names : NamedForms) → ByFirst Form Forms form_then no_forms (IsTextOfMember names) (IsTextOfMembers names)
+first_member names P last next fs text (last_member f own is) = last f own is
+first_member names P last next fs text (next_member f gs own others is are) = next f gs own others is are
 
-abbrev pub members : Listing
-members = record {
+abbrev pub members : NamedForms → Listing
+members names = record {
   Item = Shape;
   One = Form;
   All = Forms;
@@ -26,11 +27,11 @@ members = record {
   all = forms;
   in_front = form_then;
   all-in_front = λ s ss. refl;
-  IsText = IsTextOfMember;
-  AreText = IsTextOfMembers;
+  IsText = IsTextOfMember names;
+  AreText = IsTextOfMembers names;
   last_text = last_member;
   next_text = next_member;
-  by_first = first_member;
+  by_first = first_member names;
   depth_of = depth;
   deepest_of = deepest;
   deepest-none = refl;
@@ -49,21 +50,21 @@ abbrev pub then_variant : OneVariant → Variants → Variants
 then_variant v vs = variant v.number v.form vs
 
 -- the text of the last variant
-pub variant_last : (v : OneVariant) (text : List ℕ) → IsTextOfVariant v text → IsTextOfVariants (then_variant v no_variants) text
-variant_last v text (shape, small, is, same) = subst (IsTextOfVariants (then_variant v no_variants)) (sym same) (last_variant v.number v.form shape small is)
+pub variant_last : (names : NamedForms) → (v : OneVariant) (text : List ℕ) → IsTextOfVariant names v text → IsTextOfVariants names (then_variant v no_variants) text
+variant_last names v text (shape, small, is, same) = subst (IsTextOfVariants names (then_variant v no_variants)) (sym same) (last_variant v.number v.form shape small is)
 
 -- the text of a variant in front of others
-pub variant_next : (v : OneVariant) (vs : Variants) (text others : List ℕ) → IsTextOfVariant v text → IsTextOfVariants vs others → IsTextOfVariants (then_variant v vs) (text ++ (codes "," ++ others))
-variant_next v vs text others (shape, small, is, same) are =
-    subst (λ (t : List ℕ). IsTextOfVariants (then_variant v vs) (t ++ (codes "," ++ others))) (sym same) (next_variant v.number v.form vs shape others small is are)
+pub variant_next : (names : NamedForms) → (v : OneVariant) (vs : Variants) (text others : List ℕ) → IsTextOfVariant names v text → IsTextOfVariants names vs others → IsTextOfVariants names (then_variant v vs) (text ++ (codes "," ++ others))
+variant_next names v vs text others (shape, small, is, same) are =
+    subst (λ (t : List ℕ). IsTextOfVariants names (then_variant v vs) (t ++ (codes "," ++ others))) (sym same) (next_variant v.number v.form vs shape others small is are)
 
 -- the text of variants is one of these two
-pub first_variant : ByFirst OneVariant Variants then_variant no_variants IsTextOfVariant IsTextOfVariants
-first_variant P last next vs text (last_variant n f shape small is) = last (record { number = n; form = f }) (decimal n ++ (codes ":" ++ shape)) (shape, small, is, refl)
-first_variant P last next vs text (next_variant n f ws shape others small is are) = next (record { number = n; form = f }) ws (decimal n ++ (codes ":" ++ shape)) others (shape, small, is, refl) are
+pub first_variant : (names : NamedForms) → ByFirst OneVariant Variants then_variant no_variants (IsTextOfVariant names) (IsTextOfVariants names)
+first_variant names P last next vs text (last_variant n f shape small is) = last (record { number = n; form = f }) (decimal n ++ (codes ":" ++ shape)) (shape, small, is, refl)
+first_variant names P last next vs text (next_variant n f ws shape others small is are) = next (record { number = n; form = f }) ws (decimal n ++ (codes ":" ++ shape)) others (shape, small, is, refl) are
 
-abbrev pub variants : Listing
-variants = record {
+abbrev pub variants : NamedForms → Listing
+variants names = record {
   Item = ℕ × Shape;
   One = OneVariant;
   All = Variants;
@@ -71,11 +72,11 @@ variants = record {
   all = all_variants;
   in_front = then_variant;
   all-in_front = λ s ss. refl;
-  IsText = IsTextOfVariant;
-  AreText = IsTextOfVariants;
-  last_text = variant_last;
-  next_text = variant_next;
-  by_first = first_variant;
+  IsText = IsTextOfVariant names;
+  AreText = IsTextOfVariants names;
+  last_text = variant_last names;
+  next_text = variant_next names;
+  by_first = first_variant names;
   depth_of = λ v. depth v.form;
   deepest_of = deepest_variant;
   deepest-none = refl;
@@ -94,20 +95,20 @@ abbrev pub then_tagged : OneMember → Members → Members
 then_tagged m ms = member_then m.id m.optional m.form ms
 
 -- the text of the last member
-pub tagged_last : (m : OneMember) (text : List ℕ) → IsTextOfTaggedMember m text → IsTextOfTaggedMembers (then_tagged m no_members) text
-tagged_last m text is = last_tagged m.id m.optional m.form text is
+pub tagged_last : (names : NamedForms) → (m : OneMember) (text : List ℕ) → IsTextOfTaggedMember names m text → IsTextOfTaggedMembers names (then_tagged m no_members) text
+tagged_last names m text is = last_tagged m.id m.optional m.form text is
 
 -- the text of a member in front of others
-pub tagged_next : (m : OneMember) (ms : Members) (text others : List ℕ) → IsTextOfTaggedMember m text → IsTextOfTaggedMembers ms others → IsTextOfTaggedMembers (then_tagged m ms) (text ++ (codes "," ++ others))
-tagged_next m ms text others is are = next_tagged m.id m.optional m.form ms text others is are
+pub tagged_next : (names : NamedForms) → (m : OneMember) (ms : Members) (text others : List ℕ) → IsTextOfTaggedMember names m text → IsTextOfTaggedMembers names ms others → IsTextOfTaggedMembers names (then_tagged m ms) (text ++ (codes "," ++ others))
+tagged_next names m ms text others is are = next_tagged m.id m.optional m.form ms text others is are
 
 -- the text of members is one of these two
-pub first_tagged : ByFirst OneMember Members then_tagged no_members IsTextOfTaggedMember IsTextOfTaggedMembers
-first_tagged P last next ms text (last_tagged id optional f own is) = last (record { id = id; optional = optional; form = f }) own is
-first_tagged P last next ms text (next_tagged id optional f ns own others is are) = next (record { id = id; optional = optional; form = f }) ns own others is are
+pub first_tagged : (names : NamedForms) → ByFirst OneMember Members then_tagged no_members (IsTextOfTaggedMember names) (IsTextOfTaggedMembers names)
+first_tagged names P last next ms text (last_tagged id optional f own is) = last (record { id = id; optional = optional; form = f }) own is
+first_tagged names P last next ms text (next_tagged id optional f ns own others is are) = next (record { id = id; optional = optional; form = f }) ns own others is are
 
-abbrev pub tagged_members : Listing
-tagged_members = record {
+abbrev pub tagged_members : NamedForms → Listing
+tagged_members names = record {
   Item = Member;
   One = OneMember;
   All = Members;
@@ -115,11 +116,11 @@ tagged_members = record {
   all = all_members;
   in_front = then_tagged;
   all-in_front = λ s ss. refl;
-  IsText = IsTextOfTaggedMember;
-  AreText = IsTextOfTaggedMembers;
-  last_text = tagged_last;
-  next_text = tagged_next;
-  by_first = first_tagged;
+  IsText = IsTextOfTaggedMember names;
+  AreText = IsTextOfTaggedMembers names;
+  last_text = tagged_last names;
+  next_text = tagged_next names;
+  by_first = first_tagged names;
   depth_of = λ m. depth m.form;
   deepest_of = deepest_member;
   deepest-none = refl;

@@ -113,6 +113,15 @@ module _ (text n rest : List ℕ) (at end : ℕ) (is : drop at text ≡ n ++ res
   name_is ends read stop =
       ⊎_elim (λ short. absurd (too_short stop short)) (λ le. ⊎_elim (λ long. absurd (too_long ends read long)) (λ ge. omega (arith, le, ge)) (cases_lt (at + length n) end)) (cases_lt end (at + length n))
 
+  -- no name that stands there is longer
+  pub no_longer : (end < length text → end < at + 64 → is_later (get_or text end 0) ≡ false) → at + length n ≤ end
+  no_longer stop = ⊎_elim (λ short. absurd (too_short stop short)) (λ le. le) (cases_lt end (at + length n))
+
+-- a name begins as one
+pub name_begins : (n rest : List ℕ) → is_name n ≡ true → begins_name (n ++ rest) ≡ true
+name_begins [] rest is = absurd (false≢true is)
+name_begins (b ∷ bs) rest is = (both (is_first b) (list_all is_later bs && nat_lt (length bs) 64) is).0
+
 -- what the end of a name that was read says of each name that stands there
 abbrev pub EndOnly : List ℕ → ℕ → ℕ → Type 0
 EndOnly text at end = (n rest : List ℕ) → drop at text ≡ n ++ rest → is_name n ≡ true → EndsName rest → end ≡ at + length n

@@ -1,3 +1,10 @@
+pub mod FormCodes
 pub mod Fronts
+pub mod Named
+pub mod NamedView
+pub mod References
+pub mod ShapeSizes
 pub mod ShapeText
 pub mod Words
+pub mod ReadValues
+pub mod ValueReading

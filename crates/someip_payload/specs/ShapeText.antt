@@ -12,6 +12,7 @@ use Rattle.someip_payload_values.specs.declared.shape.Shape.{Shape}
 use Rattle.someip_payload_values.specs.declared.shape.Encoding.TheVariants.{Utf8, Utf16}
 use Rattle.someip_payload_values.specs.declared.shape.Width.{Width}
 use Rattle.someip_payload_values.specs.declared.shape.Width.TheVariants.{W8, W16, W32}
+use Rattle.someip_payload.specs.Named.{NamedForms, form_named}
 use Rattle.someip_payload.specs.declared.shape_text_error.ShapeTextError.{ShapeTextError}
 use Rattle.someip_payload.specs.declared.shape_text_error.ShapeTextError.TheVariants.{BadShape, OutOfMemory}
 
@@ -114,56 +115,61 @@ pub data IsFloat : Form → List ℕ → Type 0 where
   f64le_text : IsFloat (float Little double) (codes "f64le")
 
 mutual
-  -- the form has the text. A number has 32 bits.
-  pub data IsTextOf : Form → List ℕ → Type 0 where
-    bool_text : IsTextOf bool (codes "bool")
-    integer_text : (f : Form) (text : List ℕ) → IsInteger f text → IsTextOf f text
-    float_text : (f : Form) (text : List ℕ) → IsFloat f text → IsTextOf f text
+  -- the form has the text, in which a name after an `@` is a text of the form that it stands for. A number has 32 bits.
+  pub data IsTextIn (names : NamedForms) : Form → List ℕ → Type 0 where
+    bool_text : IsTextIn names bool (codes "bool")
+    integer_text : (f : Form) (text : List ℕ) → IsInteger f text → IsTextIn names f text
+    float_text : (f : Form) (text : List ℕ) → IsFloat f text → IsTextIn names f text
     enum_text : (f : Form) (word : List ℕ) (ls : List (ℤ × List ℕ)) (text : List ℕ) → IsInteger f word → IsTextOfLabels ls text
-        → IsTextOf (enumerated f ls) (word ++ (codes "{" ++ (text ++ codes "}")))
-    utf8_text : (w : Option Width) → IsTextOf (string Utf8 (or_32 w)) (codes "utf8" ++ width_text w)
-    utf16_text : (w : Option Width) → IsTextOf (string Utf16 (or_32 w)) (codes "utf16" ++ width_text w)
-    utf8fix_text : (n : ℕ) → n < 2 ^ 32 → IsTextOf (padded Utf8 n) (codes "utf8fix" ++ room_text n)
-    utf16fix_text : (n : ℕ) → n < 2 ^ 32 → IsTextOf (padded Utf16 n) (codes "utf16fix" ++ room_text n)
-    array_text : (w : Option Width) (n : ℕ) (f : Form) (text : List ℕ) → n < 2 ^ 32 → IsTextOf f text
-        → IsTextOf (array (or_32 w) n f) (codes "array" ++ (width_text w ++ repeated_text n text))
-    fixed_text : (w : Option Width) (n : ℕ) (f : Form) (text : List ℕ) → n < 2 ^ 32 → IsTextOf f text
-        → IsTextOf (fixed w n f) (codes "fixed" ++ (width_text w ++ repeated_text n text))
-    struct_text : (w : Option Width) (fs : Forms) (text : List ℕ) → IsTextOfMembers fs text
-        → IsTextOf («struct» w fs) (codes "struct" ++ (width_text w ++ (codes "(" ++ (text ++ codes ")"))))
-    union_text : (ws : Option (Width × Width)) (vs : Variants) (text : List ℕ) → IsTextOfVariants vs text
-        → IsTextOf (union_of ws vs) (codes "union" ++ (widths_text ws ++ (codes "(" ++ (text ++ codes ")"))))
-    tagged_text : (w : Option Width) (ms : Members) (text : List ℕ) → IsTextOfTaggedMembers ms text
-        → IsTextOf (tagged (or_32 w) ms) (codes "tagged" ++ (width_text w ++ (codes "(" ++ (text ++ codes ")"))))
+        → IsTextIn names (enumerated f ls) (word ++ (codes "{" ++ (text ++ codes "}")))
+    utf8_text : (w : Option Width) → IsTextIn names (string Utf8 (or_32 w)) (codes "utf8" ++ width_text w)
+    utf16_text : (w : Option Width) → IsTextIn names (string Utf16 (or_32 w)) (codes "utf16" ++ width_text w)
+    utf8fix_text : (n : ℕ) → n < 2 ^ 32 → IsTextIn names (padded Utf8 n) (codes "utf8fix" ++ room_text n)
+    utf16fix_text : (n : ℕ) → n < 2 ^ 32 → IsTextIn names (padded Utf16 n) (codes "utf16fix" ++ room_text n)
+    array_text : (w : Option Width) (n : ℕ) (f : Form) (text : List ℕ) → n < 2 ^ 32 → IsTextIn names f text
+        → IsTextIn names (array (or_32 w) n f) (codes "array" ++ (width_text w ++ repeated_text n text))
+    fixed_text : (w : Option Width) (n : ℕ) (f : Form) (text : List ℕ) → n < 2 ^ 32 → IsTextIn names f text
+        → IsTextIn names (fixed w n f) (codes "fixed" ++ (width_text w ++ repeated_text n text))
+    struct_text : (w : Option Width) (fs : Forms) (text : List ℕ) → IsTextOfMembers names fs text
+        → IsTextIn names («struct» w fs) (codes "struct" ++ (width_text w ++ (codes "(" ++ (text ++ codes ")"))))
+    union_text : (ws : Option (Width × Width)) (vs : Variants) (text : List ℕ) → IsTextOfVariants names vs text
+        → IsTextIn names (union_of ws vs) (codes "union" ++ (widths_text ws ++ (codes "(" ++ (text ++ codes ")"))))
+    tagged_text : (w : Option Width) (ms : Members) (text : List ℕ) → IsTextOfTaggedMembers names ms text
+        → IsTextIn names (tagged (or_32 w) ms) (codes "tagged" ++ (width_text w ++ (codes "(" ++ (text ++ codes ")"))))
+    reference_text : (n : List ℕ) (f : Form) → is_name n ≡ true → form_named names n ≡ Some f → IsTextIn names f (codes "@" ++ n)
 
   -- a member of a structure: perhaps a name and a colon, and a form
-  pub data IsTextOfMember : Form → List ℕ → Type 0 where
-    member_text : (name : Option (List ℕ)) (f : Form) (text : List ℕ) → IsNameIfAny name → IsTextOf f text
-        → IsTextOfMember (with_name name f) (name_text name ++ text)
+  pub data IsTextOfMember (names : NamedForms) : Form → List ℕ → Type 0 where
+    member_text : (name : Option (List ℕ)) (f : Form) (text : List ℕ) → IsNameIfAny name → IsTextIn names f text
+        → IsTextOfMember names (with_name name f) (name_text name ++ text)
 
   -- members, of which there is at least one, with commas between them
-  pub data IsTextOfMembers : Forms → List ℕ → Type 0 where
-    last_member : (f : Form) (text : List ℕ) → IsTextOfMember f text → IsTextOfMembers (form_then f no_forms) text
-    next_member : (f : Form) (fs : Forms) (text others : List ℕ) → IsTextOfMember f text → IsTextOfMembers fs others
-        → IsTextOfMembers (form_then f fs) (text ++ (codes "," ++ others))
+  pub data IsTextOfMembers (names : NamedForms) : Forms → List ℕ → Type 0 where
+    last_member : (f : Form) (text : List ℕ) → IsTextOfMember names f text → IsTextOfMembers names (form_then f no_forms) text
+    next_member : (f : Form) (fs : Forms) (text others : List ℕ) → IsTextOfMember names f text → IsTextOfMembers names fs others
+        → IsTextOfMembers names (form_then f fs) (text ++ (codes "," ++ others))
 
   -- variants, of which there is at least one, each after its type number, with commas between them
-  pub data IsTextOfVariants : Variants → List ℕ → Type 0 where
-    last_variant : (n : ℕ) (f : Form) (text : List ℕ) → n < 2 ^ 32 → IsTextOf f text → IsTextOfVariants (variant n f no_variants) (decimal n ++ (codes ":" ++ text))
-    next_variant : (n : ℕ) (f : Form) (vs : Variants) (text others : List ℕ) → n < 2 ^ 32 → IsTextOf f text → IsTextOfVariants vs others
-        → IsTextOfVariants (variant n f vs) ((decimal n ++ (codes ":" ++ text)) ++ (codes "," ++ others))
+  pub data IsTextOfVariants (names : NamedForms) : Variants → List ℕ → Type 0 where
+    last_variant : (n : ℕ) (f : Form) (text : List ℕ) → n < 2 ^ 32 → IsTextIn names f text → IsTextOfVariants names (variant n f no_variants) (decimal n ++ (codes ":" ++ text))
+    next_variant : (n : ℕ) (f : Form) (vs : Variants) (text others : List ℕ) → n < 2 ^ 32 → IsTextIn names f text → IsTextOfVariants names vs others
+        → IsTextOfVariants names (variant n f vs) ((decimal n ++ (codes ":" ++ text)) ++ (codes "," ++ others))
 
   -- a member of a tagged structure: perhaps a name and a colon, its Data ID, perhaps the mark, and a form. A Data ID has 12 bits.
-  pub data IsTextOfTagged : ℕ → Bool → Form → List ℕ → Type 0 where
-    tagged_one : (name : Option (List ℕ)) (id : ℕ) (optional : Bool) (f : Form) (text : List ℕ) → IsNameIfAny name → id < 2 ^ 12 → IsTextOf f text
-        → IsTextOfTagged id optional (with_name name f) (name_text name ++ tagged_member_text id optional text)
+  pub data IsTextOfTagged (names : NamedForms) : ℕ → Bool → Form → List ℕ → Type 0 where
+    tagged_one : (name : Option (List ℕ)) (id : ℕ) (optional : Bool) (f : Form) (text : List ℕ) → IsNameIfAny name → id < 2 ^ 12 → IsTextIn names f text
+        → IsTextOfTagged names id optional (with_name name f) (name_text name ++ tagged_member_text id optional text)
 
   -- members of a tagged structure, of which there is at least one, with commas between them
-  pub data IsTextOfTaggedMembers : Members → List ℕ → Type 0 where
-    last_tagged : (id : ℕ) (optional : Bool) (f : Form) (text : List ℕ) → IsTextOfTagged id optional f text
-        → IsTextOfTaggedMembers (member_then id optional f no_members) text
-    next_tagged : (id : ℕ) (optional : Bool) (f : Form) (ms : Members) (text others : List ℕ) → IsTextOfTagged id optional f text → IsTextOfTaggedMembers ms others
-        → IsTextOfTaggedMembers (member_then id optional f ms) (text ++ (codes "," ++ others))
+  pub data IsTextOfTaggedMembers (names : NamedForms) : Members → List ℕ → Type 0 where
+    last_tagged : (id : ℕ) (optional : Bool) (f : Form) (text : List ℕ) → IsTextOfTagged names id optional f text
+        → IsTextOfTaggedMembers names (member_then id optional f no_members) text
+    next_tagged : (id : ℕ) (optional : Bool) (f : Form) (ms : Members) (text others : List ℕ) → IsTextOfTagged names id optional f text → IsTextOfTaggedMembers names ms others
+        → IsTextOfTaggedMembers names (member_then id optional f ms) (text ++ (codes "," ++ others))
+
+-- the form has the text, in which no names are used
+abbrev pub IsTextOf : Form → List ℕ → Type 0
+IsTextOf = IsTextIn []
 
 -- a value and its name as a shape has them
 abbrev pub one_label : ℤ × String Global → ℤ × List ℕ
@@ -178,12 +184,12 @@ abbrev pub one_variant : ℕ × Shape → OneVariant
 one_variant v = record { number = v.0; form = form v.1 }
 
 -- the text of one variant of a union
-abbrev pub IsTextOfVariant : OneVariant → List ℕ → Type 0
-IsTextOfVariant v text = (shape : List ℕ) × (v.number < 2 ^ 32) × IsTextOf v.form shape × (text ≡ decimal v.number ++ (codes ":" ++ shape))
+abbrev pub IsTextOfVariant : NamedForms → OneVariant → List ℕ → Type 0
+IsTextOfVariant names v text = (shape : List ℕ) × (v.number < 2 ^ 32) × IsTextIn names v.form shape × (text ≡ decimal v.number ++ (codes ":" ++ shape))
 
 -- the text of one member of a tagged structure
-abbrev pub IsTextOfTaggedMember : OneMember → List ℕ → Type 0
-IsTextOfTaggedMember m text = IsTextOfTagged m.id m.optional m.form text
+abbrev pub IsTextOfTaggedMember : NamedForms → OneMember → List ℕ → Type 0
+IsTextOfTaggedMember names m text = IsTextOfTagged names m.id m.optional m.form text
 
 -- a fault's place lies between two places; memory may run out at any
 abbrev pub IsFaultWithin : ℕ → ℕ → ShapeTextError → Type 0

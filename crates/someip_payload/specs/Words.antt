@@ -6,7 +6,8 @@ use Rattle.someip_payload_values.specs.declared.number.Order.TheVariants.{Big, L
 use Rattle.someip_payload_values.specs.declared.number.Size.TheVariants.{S16, S32, S64}
 use Rattle.someip_payload_values.specs.declared.shape.Encoding.TheVariants.{Utf8, Utf16}
 use Rattle.someip_payload_values.specs.declared.shape.Width.{Width}
-use Rattle.someip_payload.specs.ShapeText.{IsTextOf, IsTextOfMembers, IsTextOfVariants, IsTextOfTaggedMembers, IsTextOfLabels, width_text, widths_text, or_32, union_of, room_text, repeated_text}
+use Rattle.someip_payload.specs.Named.{NamedForms}
+use Rattle.someip_payload.specs.ShapeText.{IsTextIn, IsTextOfMembers, IsTextOfVariants, IsTextOfTaggedMembers, IsTextOfLabels, width_text, widths_text, or_32, union_of, room_text, repeated_text}
 use Rattle.someip_payload.specs.declared.words.Integer.{Integer}
 use Rattle.someip_payload.specs.declared.words.Integer.TheVariants as integer
 use Rattle.someip_payload.specs.declared.words.Float.{Float}
@@ -73,26 +74,26 @@ word_text word.Union = codes "union"
 word_text word.Tagged = codes "tagged"
 
 -- what stands after the word in a text of the form
-abbrev pub Behind : Word → Form → List ℕ → Type 0
-Behind word.Bool f back = (f ≡ bool) × (back ≡ [])
-Behind (word.Integer i) f back =
+abbrev pub Behind : NamedForms → Word → Form → List ℕ → Type 0
+Behind names word.Bool f back = (f ≡ bool) × (back ≡ [])
+Behind names (word.Integer i) f back =
     ((f ≡ integer_form i) × (back ≡ []))
     ⊎ ((ls : List (ℤ × List ℕ)) × (text : List ℕ) × IsTextOfLabels ls text × (f ≡ enumerated (integer_form i) ls) × (back ≡ codes "{" ++ (text ++ codes "}")))
-Behind (word.Float x) f back = (f ≡ float_form x) × (back ≡ [])
-Behind (word.Text e) f back = (w : Option Width) × (f ≡ string e (or_32 w)) × (back ≡ width_text w)
-Behind (word.FixedText e) f back = (n : ℕ) × (n < 2 ^ 32) × (f ≡ padded e n) × (back ≡ room_text n)
-Behind word.Array f back =
-    (w : Option Width) × (n : ℕ) × (g : Form) × (text : List ℕ) × (n < 2 ^ 32) × IsTextOf g text
+Behind names (word.Float x) f back = (f ≡ float_form x) × (back ≡ [])
+Behind names (word.Text e) f back = (w : Option Width) × (f ≡ string e (or_32 w)) × (back ≡ width_text w)
+Behind names (word.FixedText e) f back = (n : ℕ) × (n < 2 ^ 32) × (f ≡ padded e n) × (back ≡ room_text n)
+Behind names word.Array f back =
+    (w : Option Width) × (n : ℕ) × (g : Form) × (text : List ℕ) × (n < 2 ^ 32) × IsTextIn names g text
     × (f ≡ array (or_32 w) n g) × (back ≡ width_text w ++ repeated_text n text)
-Behind word.Fixed f back =
-    (w : Option Width) × (n : ℕ) × (g : Form) × (text : List ℕ) × (n < 2 ^ 32) × IsTextOf g text
+Behind names word.Fixed f back =
+    (w : Option Width) × (n : ℕ) × (g : Form) × (text : List ℕ) × (n < 2 ^ 32) × IsTextIn names g text
     × (f ≡ fixed w n g) × (back ≡ width_text w ++ repeated_text n text)
-Behind word.Struct f back =
-    (w : Option Width) × (fs : Forms) × (text : List ℕ) × IsTextOfMembers fs text
+Behind names word.Struct f back =
+    (w : Option Width) × (fs : Forms) × (text : List ℕ) × IsTextOfMembers names fs text
     × (f ≡ «struct» w fs) × (back ≡ width_text w ++ (codes "(" ++ (text ++ codes ")")))
-Behind word.Union f back =
-    (ws : Option (Width × Width)) × (vs : Variants) × (text : List ℕ) × IsTextOfVariants vs text
+Behind names word.Union f back =
+    (ws : Option (Width × Width)) × (vs : Variants) × (text : List ℕ) × IsTextOfVariants names vs text
     × (f ≡ union_of ws vs) × (back ≡ widths_text ws ++ (codes "(" ++ (text ++ codes ")")))
-Behind word.Tagged f back =
-    (w : Option Width) × (ms : Members) × (text : List ℕ) × IsTextOfTaggedMembers ms text
+Behind names word.Tagged f back =
+    (w : Option Width) × (ms : Members) × (text : List ℕ) × IsTextOfTaggedMembers names ms text
     × (f ≡ tagged (or_32 w) ms) × (back ≡ width_text w ++ (codes "(" ++ (text ++ codes ")")))

@@ -20,6 +20,7 @@ pub(crate) fn name_end(text: &[u8], at: usize) -> usize
     ensures found { at < result → is_name (slice_range text.now at result) ≡ true }
     ensures only { (n rest : List ℕ) → drop at text.now ≡ n ++ rest → is_name n ≡ true → EndsName rest
         → result ≡ at + length n }
+    ensures longest { (n rest : List ℕ) → drop at text.now ≡ n ++ rest → is_name n ≡ true → at + length n ≤ result }
     ensures none { BeginsNoName (drop at text.now) → result ≡ at }
     ensures end { (at ≤ result) × (result ≤ length text.now) }
 {

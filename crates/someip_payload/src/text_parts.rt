@@ -1,10 +1,10 @@
 //! Parts of the text of a shape: words, numbers and single bytes.
 
-ghost use Rattle.std.specs.Prelude.{◌≡◌, ◌+◌, ◌*◌, ◌<◌, ◌≤◌, ◌^◌, ◌++◌, ◌∷◌, [], ℕ, List, Ok, false, map, length, drop, slice_range, slice_index, IsTrue, IfOk, IfErr, IfSome, IfNone};
+ghost use Rattle.std.specs.Prelude.{◌≡◌, ◌+◌, ◌*◌, ◌<◌, ◌≤◌, ◌^◌, ◌++◌, ◌∷◌, [], ℕ, Bool, List, Ok, false, map, codes, length, drop, slice_range, slice_index, IsTrue, IfOk, IfErr, IfSome, IfNone};
 ghost use Rattle.std.specs.List.{AllByRecursion};
 ghost use Rattle.std.specs.Fmt.{decimal};
 ghost use Rattle.someip_payload.specs.Fronts.{common, longest, longest_front, is_word};
-ghost use Rattle.someip_payload.specs.ShapeText.{IsFaultWithin, IsDigit};
+ghost use Rattle.someip_payload.specs.ShapeText.{IsFaultWithin, IsDigit, mark_text};
 
 use crate::shape_text_error::ShapeTextError;
 
@@ -71,7 +71,7 @@ fn longest_front<T: Copy>(words: &[(&str, T)], text: &[u8]) -> usize
 }
 
 /// How many bytes two texts have in common at their front.
-fn common_len(a: &[u8], b: &[u8]) -> usize
+pub(crate) fn common_len(a: &[u8], b: &[u8]) -> usize
     ensures same { result ≡ common a.now b.now }
     ensures bound { result ≤ length b.now }
 {
@@ -100,6 +100,21 @@ pub(crate) fn byte_at(byte: u8, text: &[u8], at: usize) -> Result<usize, ShapeTe
         return Err(ShapeTextError::BadShape(at));
     }
     Ok(at + 1)
+}
+
+/// Whether a question mark stands here, and the place after it.
+pub(crate) fn mark_at(text: &[u8], at: usize) -> (bool, usize)
+    requires { at ≤ length text.now }
+    ensures found { slice_range text.now at result.1 ≡ mark_text result.0 }
+    ensures only { (optional : Bool) (rest : List ℕ) → drop at text.now ≡ mark_text optional ++ (codes ":" ++ rest)
+        → result ≡ (optional, at + length (mark_text optional)) }
+    ensures end { (at ≤ result.1) × (result.1 ≤ length text.now) }
+{
+    if text.get(at) == Some(&b'?') {
+        (true, at + 1)
+    } else {
+        (false, at)
+    }
 }
 
 /// A decimal number below the limit, as `long_decimal_at`.

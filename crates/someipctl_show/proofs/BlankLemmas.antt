@@ -19,7 +19,7 @@ use Rattle.someipctl_show.specs.Payload.{argument_bytes}
 use Rattle.someipctl_show.specs.VectorLines.{AreArguments, fault_of_shape}
 use Rattle.someip_payload_values.specs.declared.shape.Width.{Width}
 use Rattle.someip_payload_values.specs.declared.shape.Width.TheVariants.{W8, W16, W32}
-use Rattle.someip_payload.specs.ShapeText.{IsFloat, f32_text, f64_text, f32le_text, f64le_text, float_text, IsReadAs, width_text, repeated_text, IsInteger, u8_text, u16_text, u32_text, u64_text, i8_text, i16_text, i32_text, i64_text, u16le_text, u32le_text, u64le_text, i16le_text, i32le_text, i64le_text, widths_text, room_text, IsTextOfLabel, IsTextOfLabels, last_label, next_label, value_text, IsValue, IsTextOf, bool_text, integer_text, enum_text, utf8_text, utf16_text, utf8fix_text, utf16fix_text, array_text, fixed_text, struct_text, union_text, tagged_text, mark_text, tagged_member_text, name_text, IsNameIfAny, IsTextOfTagged, tagged_one, IsTextOfTaggedMembers, last_tagged, next_tagged, IsTextOfMember, member_text, IsTextOfMembers, last_member, next_member, IsTextOfVariants, last_variant, next_variant}
+use Rattle.someip_payload.specs.ShapeText.{IsFloat, f32_text, f64_text, f32le_text, f64le_text, float_text, IsReadAs, width_text, repeated_text, IsInteger, u8_text, u16_text, u32_text, u64_text, i8_text, i16_text, i32_text, i64_text, u16le_text, u32le_text, u64le_text, i16le_text, i32le_text, i64le_text, widths_text, room_text, IsTextOfLabel, IsTextOfLabels, last_label, next_label, value_text, IsValue, IsTextOf, bool_text, integer_text, enum_text, utf8_text, utf16_text, utf8fix_text, utf16fix_text, array_text, fixed_text, struct_text, union_text, tagged_text, reference_text, mark_text, tagged_member_text, name_text, IsNameIfAny, IsTextOfTagged, tagged_one, IsTextOfTaggedMembers, last_tagged, next_tagged, IsTextOfMember, member_text, IsTextOfMembers, last_member, next_member, IsTextOfVariants, last_variant, next_variant}
 
 abbrev pub is_blank : ℕ → Bool
 is_blank b = b == 32
@@ -162,25 +162,26 @@ mutual
   shape_unparted f text (tagged_text w ms inner h) =
       between (codes "tagged") (width_text w) (codes "(" ++ (inner ++ codes ")")) refl (width_unparted w)
       (between (codes "(") inner (codes ")") refl (tagged_unparted ms inner h) refl)
+  shape_unparted f text (reference_text n g good stands) = both (codes "@") n refl (whole_unparted n good)
 
-  members_unparted : (fs : Forms) (text : List ℕ) → IsTextOfMembers fs text → IsUnparted text
+  members_unparted : (fs : Forms) (text : List ℕ) → IsTextOfMembers [] fs text → IsUnparted text
   members_unparted fs text (last_member f inner h) = one_unparted f inner h
   members_unparted fs text (next_member f gs inner others h more) =
       between inner (codes ",") others (one_unparted f inner h) refl (members_unparted gs others more)
 
-  one_unparted : (f : Form) (text : List ℕ) → IsTextOfMember f text → IsUnparted text
+  one_unparted : (f : Form) (text : List ℕ) → IsTextOfMember [] f text → IsUnparted text
   one_unparted f text (member_text name g inner is h) = both (name_text name) inner (name_unparted name is) (shape_unparted g inner h)
 
-  variants_unparted : (vs : Variants) (text : List ℕ) → IsTextOfVariants vs text → IsUnparted text
+  variants_unparted : (vs : Variants) (text : List ℕ) → IsTextOfVariants [] vs text → IsUnparted text
   variants_unparted vs text (last_variant n f inner fits h) = number_unparted n inner fits (shape_unparted f inner h)
   variants_unparted vs text (next_variant n f ws inner others fits h more) =
       between (decimal n ++ (codes ":" ++ inner)) (codes ",") others (number_unparted n inner fits (shape_unparted f inner h)) refl (variants_unparted ws others more)
 
-  tagged_unparted : (ms : Members) (text : List ℕ) → IsTextOfTaggedMembers ms text → IsUnparted text
+  tagged_unparted : (ms : Members) (text : List ℕ) → IsTextOfTaggedMembers [] ms text → IsUnparted text
   tagged_unparted ms text (last_tagged id optional f inner h) = one_tagged id optional f inner h
   tagged_unparted ms text (next_tagged id optional f ns inner others h more) = between inner (codes ",") others (one_tagged id optional f inner h) refl (tagged_unparted ns others more)
 
-  one_tagged : (id : ℕ) (optional : Bool) (f : Form) (text : List ℕ) → IsTextOfTagged id optional f text → IsUnparted text
+  one_tagged : (id : ℕ) (optional : Bool) (f : Form) (text : List ℕ) → IsTextOfTagged [] id optional f text → IsUnparted text
   one_tagged id optional f text (tagged_one name at may g inner is fits h) =
       both (name_text name) (tagged_member_text at may inner) (name_unparted name is) (member_unparted at may inner fits (shape_unparted g inner h))
 

@@ -7,8 +7,10 @@ use std::alloc::Global;
 mod floats;
 mod limits;
 mod more_forms;
+mod named_shapes;
 mod shapes;
 mod tagged;
+mod value_texts;
 
 /// The value at the front of bytes of a shape, and how many bytes it has.
 fn value_of(alloc: Global, shape: &str, bytes: &[u8]) -> Option<(Value, usize)> {

@@ -1,6 +1,6 @@
 use Rattle.std.proofs.Common.{◌≡◌, ◌-◌, ◌<◌, ◌≤◌, true, drop, sym, arith}
 use Rattle.someip_payload.specs.ShapeText.{begins_name}
-use Rattle.someip_payload.proofs.NameBytes.{begun, goes_on, name_is}
+use Rattle.someip_payload.proofs.NameBytes.{begun, goes_on, name_is, no_longer}
 use Rattle.someip_payload.proofs.names.name_end.Goals as goal
 
 pub loop-end-init : goal.loop-end-init
@@ -25,3 +25,14 @@ returns-else-end-at-lt-MAX_NAME_LEN-clause-only c = λ n rest is name ends.
     let held = c.loop-end.invariant in
     let long : 64 ≤ c.loop-end.end - c.args.at = c.if-end-at-lt-MAX_NAME_LEN.false in
     name_is c.args.text.now n rest c.args.at c.loop-end.end is name held.0 held.1 ends held.3 (λ _ less. absurd (omega (arith, long, less)))
+
+pub returns-else-is_later-clause-longest : goal.returns-else-is_later-clause-longest
+returns-else-is_later-clause-longest c = λ n rest is name.
+    let held = c.loop-end.invariant in
+    no_longer c.args.text.now n rest c.args.at c.loop-end.end is name held.0 held.1 (λ _ _. sym c.if-is_later.ensures)
+
+pub returns-else-end-at-lt-MAX_NAME_LEN-clause-longest : goal.returns-else-end-at-lt-MAX_NAME_LEN-clause-longest
+returns-else-end-at-lt-MAX_NAME_LEN-clause-longest c = λ n rest is name.
+    let held = c.loop-end.invariant in
+    let long : 64 ≤ c.loop-end.end - c.args.at = c.if-end-at-lt-MAX_NAME_LEN.false in
+    no_longer c.args.text.now n rest c.args.at c.loop-end.end is name held.0 held.1 (λ _ less. absurd (omega (arith, long, less)))

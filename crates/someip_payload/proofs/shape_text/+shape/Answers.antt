@@ -1,4 +1,4 @@
-use Rattle.std.proofs.Common.{rules, ◌≡◌, ◌+◌, ◌-◌, ◌<◌, ◌≤◌, ◌^◌, false, ◌++◌, ◌∷◌, length, slice_range, codes, string_bytes, Global, refl, sym, ap, ◌∙◌, arith}
+use Rattle.std.proofs.Common.{rules, ℕ, Bool as Bit, List, IsTrue, drop, ◌≡◌, ◌+◌, ◌-◌, ◌<◌, ◌≤◌, ◌^◌, false, ◌++◌, ◌∷◌, length, slice_range, codes, string_bytes, Global, refl, sym, ap, ◌∙◌, arith}
 use Rattle.std.specs.Option.{option_map}
 use Rattle.std.proofs.lemmas.Bool.{false≢true}
 use Rattle.std.proofs.lemmas.List.{length-append}
@@ -8,7 +8,7 @@ use Rattle.someip_payload_values.specs.Check.{depth}
 use Rattle.someip_payload_values.specs.View.{form, all_variants}
 use Rattle.someip_payload.specs.ShapeText.{tagged_member_text, name_text, with_name, repeated_text, width_text, widths_text, bool_text, float_text}
 use Rattle.someip_payload.specs.Words.{float_word, float_form, word_text}
-use Rattle.someip_payload.proofs.Converse.{by_word, float_is, plain, word_there, not_read, passed_on, memory_of}
+use Rattle.someip_payload.proofs.Converse.{NoSign, by_word, by_reference, float_is, plain, word_there, not_read, passed_on, memory_of}
 use Rattle.someip_payload.proofs.Places.{behind_piece}
 use Rattle.someip_payload.proofs.ConverseParts.{inner, array_is, fixed_is, struct_is, union_is, tagged_is, stops_repeated, stops_bracket, stops_end, no_digit_comma, after_width, after_widths, after_open, after_count, after_comma, length-repeated, after_bracket, within_more, float_depth, union_depth}
 use Rattle.someip_payload.proofs.MemberTexts.{tagged_parts, depth-with_name, with_colon, without_colon, byte_and_rest}
@@ -25,7 +25,7 @@ pub shape_at-returns-in-Bool-clause-found : goal.shape_at-returns-in-Bool-clause
 shape_at-returns-in-Bool-clause-found t c = plain_shape Bool bool _ _ form-Bool bool_text (c.in_ok-word.ensures.found ∙ ap word_text c.in-Bool.is)
 
 pub shape_at-returns-in-Integer-clause-found : goal.shape_at-returns-in-Integer-clause-found
-shape_at-returns-in-Integer-clause-found t c = behind_word c.integer_at.result _ _ _ _ _ c.in-Integer.is c.in_ok-word.ensures.end.0 c.in_ok-word.ensures.found c.integer_at.ensures.end c.integer_at.ensures.found
+shape_at-returns-in-Integer-clause-found t c = behind_word c.args.names.now c.integer_at.result _ _ _ _ _ c.in-Integer.is c.in_ok-word.ensures.end.0 c.in_ok-word.ensures.found c.integer_at.ensures.end (c.integer_at.ensures.found c.args.names.now)
 
 pub shape_at-returns-in-Float-clause-found : goal.shape_at-returns-in-Float-clause-found
 shape_at-returns-in-Float-clause-found t c =
@@ -33,25 +33,25 @@ shape_at-returns-in-Float-clause-found t c =
     plain_shape c.float_shape.result (float_form x) (float_word x) _ c.float_shape.ensures (float_text (float_form x) (float_word x) (float_is x)) (c.in_ok-word.ensures.found ∙ ap word_text c.in-Float.is)
 
 pub shape_at-returns-in-Text-clause-found : goal.shape_at-returns-in-Text-clause-found
-shape_at-returns-in-Text-clause-found t c = behind_word c.string_at.result _ _ _ _ _ c.in-Text.is c.in_ok-word.ensures.end.0 c.in_ok-word.ensures.found c.string_at.ensures.end c.string_at.ensures.found
+shape_at-returns-in-Text-clause-found t c = behind_word c.args.names.now c.string_at.result _ _ _ _ _ c.in-Text.is c.in_ok-word.ensures.end.0 c.in_ok-word.ensures.found c.string_at.ensures.end (c.string_at.ensures.found c.args.names.now)
 
 pub shape_at-returns-in-FixedText-clause-found : goal.shape_at-returns-in-FixedText-clause-found
-shape_at-returns-in-FixedText-clause-found t c = behind_word c.padded_at.result _ _ _ _ _ c.in-FixedText.is c.in_ok-word.ensures.end.0 c.in_ok-word.ensures.found c.padded_at.ensures.end c.padded_at.ensures.found
+shape_at-returns-in-FixedText-clause-found t c = behind_word c.args.names.now c.padded_at.result _ _ _ _ _ c.in-FixedText.is c.in_ok-word.ensures.end.0 c.in_ok-word.ensures.found c.padded_at.ensures.end (c.padded_at.ensures.found c.args.names.now)
 
 pub shape_at-returns-in-Array-clause-found : goal.shape_at-returns-in-Array-clause-found
-shape_at-returns-in-Array-clause-found t c = behind_word c.array_at.result _ _ _ _ _ c.in-Array.is c.in_ok-word.ensures.end.0 c.in_ok-word.ensures.found c.array_at.ensures.end c.array_at.ensures.found
+shape_at-returns-in-Array-clause-found t c = behind_word c.args.names.now c.array_at.result _ _ _ _ _ c.in-Array.is c.in_ok-word.ensures.end.0 c.in_ok-word.ensures.found c.array_at.ensures.end c.array_at.ensures.found
 
 pub shape_at-returns-in-Fixed-clause-found : goal.shape_at-returns-in-Fixed-clause-found
-shape_at-returns-in-Fixed-clause-found t c = behind_word c.fixed_at.result _ _ _ _ _ c.in-Fixed.is c.in_ok-word.ensures.end.0 c.in_ok-word.ensures.found c.fixed_at.ensures.end c.fixed_at.ensures.found
+shape_at-returns-in-Fixed-clause-found t c = behind_word c.args.names.now c.fixed_at.result _ _ _ _ _ c.in-Fixed.is c.in_ok-word.ensures.end.0 c.in_ok-word.ensures.found c.fixed_at.ensures.end c.fixed_at.ensures.found
 
 pub shape_at-returns-in-Struct-clause-found : goal.shape_at-returns-in-Struct-clause-found
-shape_at-returns-in-Struct-clause-found t c = behind_word c.struct_at.result _ _ _ _ _ c.in-Struct.is c.in_ok-word.ensures.end.0 c.in_ok-word.ensures.found c.struct_at.ensures.end c.struct_at.ensures.found
+shape_at-returns-in-Struct-clause-found t c = behind_word c.args.names.now c.struct_at.result _ _ _ _ _ c.in-Struct.is c.in_ok-word.ensures.end.0 c.in_ok-word.ensures.found c.struct_at.ensures.end c.struct_at.ensures.found
 
 pub shape_at-returns-in-Union-clause-found : goal.shape_at-returns-in-Union-clause-found
-shape_at-returns-in-Union-clause-found t c = behind_word c.union_at.result _ _ _ _ _ c.in-Union.is c.in_ok-word.ensures.end.0 c.in_ok-word.ensures.found c.union_at.ensures.end c.union_at.ensures.found
+shape_at-returns-in-Union-clause-found t c = behind_word c.args.names.now c.union_at.result _ _ _ _ _ c.in-Union.is c.in_ok-word.ensures.end.0 c.in_ok-word.ensures.found c.union_at.ensures.end c.union_at.ensures.found
 
 pub shape_at-returns-in-Tagged-clause-found : goal.shape_at-returns-in-Tagged-clause-found
-shape_at-returns-in-Tagged-clause-found t c = behind_word c.tagged_at.result _ _ _ _ _ c.in-Tagged.is c.in_ok-word.ensures.end.0 c.in_ok-word.ensures.found c.tagged_at.ensures.end c.tagged_at.ensures.found
+shape_at-returns-in-Tagged-clause-found t c = behind_word c.args.names.now c.tagged_at.result _ _ _ _ _ c.in-Tagged.is c.in_ok-word.ensures.end.0 c.in_ok-word.ensures.found c.tagged_at.ensures.end c.tagged_at.ensures.found
 
 pub array_at-returns-clause-found : goal.array_at-returns-clause-found
 array_at-returns-clause-found t c =
@@ -127,15 +127,15 @@ named_at-returns-clause-found t c =
 
 pub members_at-returns-else-has_byte-clause-found : goal.members_at-returns-else-has_byte-clause-found
 members_at-returns-else-has_byte-clause-found t c =
-    all_found members c.loop-items.invariant c.in_ok-item.item c.in_ok-item.end _ (search rules) c.in_ok-end.end c.in_ok-item.ensures.end.0 c.in_ok-item.ensures.found c.in_ok-end.ensures.end.0 c.in_ok-end.ensures.found
+    all_found (members c.args.names.now) c.loop-items.invariant c.in_ok-item.item c.in_ok-item.end _ (search rules) c.in_ok-end.end c.in_ok-item.ensures.end.0 c.in_ok-item.ensures.found c.in_ok-end.ensures.end.0 c.in_ok-end.ensures.found
 
 pub variants_at-returns-else-has_byte-clause-found : goal.variants_at-returns-else-has_byte-clause-found
 variants_at-returns-else-has_byte-clause-found t c =
-    all_found variants c.loop-items.invariant c.in_ok-item.item c.in_ok-item.end _ (search rules) c.in_ok-end.end c.in_ok-item.ensures.end.0 c.in_ok-item.ensures.found c.in_ok-end.ensures.end.0 c.in_ok-end.ensures.found
+    all_found (variants c.args.names.now) c.loop-items.invariant c.in_ok-item.item c.in_ok-item.end _ (search rules) c.in_ok-end.end c.in_ok-item.ensures.end.0 c.in_ok-item.ensures.found c.in_ok-end.ensures.end.0 c.in_ok-end.ensures.found
 
 pub tagged_members_at-returns-else-has_byte-clause-found : goal.tagged_members_at-returns-else-has_byte-clause-found
 tagged_members_at-returns-else-has_byte-clause-found t c =
-    all_found tagged_members c.loop-items.invariant c.in_ok-item.item c.in_ok-item.end _ (search rules) c.in_ok-end.end c.in_ok-item.ensures.end.0 c.in_ok-item.ensures.found c.in_ok-end.ensures.end.0 c.in_ok-end.ensures.found
+    all_found (tagged_members c.args.names.now) c.loop-items.invariant c.in_ok-item.item c.in_ok-item.end _ (search rules) c.in_ok-end.end c.in_ok-item.ensures.end.0 c.in_ok-item.ensures.found c.in_ok-end.ensures.end.0 c.in_ok-end.ensures.found
 
 -- ---- how deep it lies
 
@@ -192,52 +192,63 @@ pub repeated_at-returns-clause-within : goal.repeated_at-returns-clause-within
 repeated_at-returns-clause-within t c = rw c.in_ok-new.ensures.ok c.in_ok-element.ensures.within
 
 pub members_at-returns-else-has_byte-clause-within : goal.members_at-returns-else-has_byte-clause-within
-members_at-returns-else-has_byte-clause-within t c = all_within members c.loop-items.invariant c.in_ok-item.item c.in_ok-item.end _ (search rules) c.in_ok-item.ensures.within
+members_at-returns-else-has_byte-clause-within t c = all_within (members c.args.names.now) c.loop-items.invariant c.in_ok-item.item c.in_ok-item.end _ (search rules) c.in_ok-item.ensures.within
 
 pub variants_at-returns-else-has_byte-clause-within : goal.variants_at-returns-else-has_byte-clause-within
-variants_at-returns-else-has_byte-clause-within t c = all_within variants c.loop-items.invariant c.in_ok-item.item c.in_ok-item.end _ (search rules) c.in_ok-item.ensures.within
+variants_at-returns-else-has_byte-clause-within t c = all_within (variants c.args.names.now) c.loop-items.invariant c.in_ok-item.item c.in_ok-item.end _ (search rules) c.in_ok-item.ensures.within
 
 pub tagged_members_at-returns-else-has_byte-clause-within : goal.tagged_members_at-returns-else-has_byte-clause-within
-tagged_members_at-returns-else-has_byte-clause-within t c = all_within tagged_members c.loop-items.invariant c.in_ok-item.item c.in_ok-item.end _ (search rules) c.in_ok-item.ensures.within
+tagged_members_at-returns-else-has_byte-clause-within t c = all_within (tagged_members c.args.names.now) c.loop-items.invariant c.in_ok-item.item c.in_ok-item.end _ (search rules) c.in_ok-item.ensures.within
 
 -- ---- each text of a shape is read
 
+no_sign : (text : List ℕ) (at : ℕ) (there : Bit) → there ≡ false → ((rest : List ℕ) → drop at text ≡ 64 ∷ rest → IsTrue there) → NoSign text at
+no_sign text at there none only tail sign = false≢true (sym none ∙ only tail sign)
+
+pub shape_at-returns-then-has_byte-clause-only : goal.shape_at-returns-then-has_byte-clause-only
+shape_at-returns-then-has_byte-clause-only t c =
+    let sign = c.has_byte.ensures.there c.if-has_byte.true in
+    by_reference c.args.names.now c.args.text.now (drop (c.args.at + 1) c.args.text.now) c.args.at c.args.left c.reference_at.result (byte_and_rest c.args.text.now c.args.at 64 sign.0 sign.1) c.reference_at.ensures.only
+
+pub shape_at-returns-then-left-eq0-clause-only : goal.shape_at-returns-then-left-eq0-clause-only
+shape_at-returns-then-left-eq0-clause-only t c = λ f front rest is is_text deep stops. absurd (omega (arith, deep, some_depth f, c.if-left-eq0.true))
+
 pub shape_at-returns-in_err-word-clause-only : goal.shape_at-returns-in_err-word-clause-only
 shape_at-returns-in_err-word-clause-only t c = λ f front rest is is_text deep stops.
-    let there = word_there c.args.text.now front rest c.args.at f is is_text stops in
+    let there = word_there c.args.names.now c.args.text.now front rest c.args.at f (no_sign c.args.text.now c.args.at _ c.if-has_byte.false c.has_byte.ensures.only) is is_text stops in
     let bad = c.in_err-word.ensures.only there.0 there.1 there.2 there.3 in
     absurd (not_read _ _ bad)
 
 pub shape_at-returns-in-Bool-clause-only : goal.shape_at-returns-in-Bool-clause-only
-shape_at-returns-in-Bool-clause-only t c = plain _ _ _ _ _ _ Bool bool c.in-Bool.is form-Bool (λ f back behind. behind) c.in_ok-word.ensures.only
+shape_at-returns-in-Bool-clause-only t c = plain c.args.names.now _ _ _ _ _ _ Bool bool (no_sign c.args.text.now c.args.at _ c.if-has_byte.false c.has_byte.ensures.only) c.in-Bool.is form-Bool (λ f back behind. behind) c.in_ok-word.ensures.only
 
 pub shape_at-returns-in-Integer-clause-only : goal.shape_at-returns-in-Integer-clause-only
-shape_at-returns-in-Integer-clause-only t c = by_word _ _ _ _ _ _ _ c.in-Integer.is c.in_ok-word.ensures.only (λ f back rest there behind deep stops. c.integer_at.ensures.only f back rest there behind stops)
+shape_at-returns-in-Integer-clause-only t c = by_word c.args.names.now _ _ _ _ _ _ _ (no_sign c.args.text.now c.args.at _ c.if-has_byte.false c.has_byte.ensures.only) c.in-Integer.is c.in_ok-word.ensures.only (λ f back rest there behind deep stops. c.integer_at.ensures.only f back rest there behind stops)
 
 pub shape_at-returns-in-Float-clause-only : goal.shape_at-returns-in-Float-clause-only
 shape_at-returns-in-Float-clause-only t c =
-    plain _ _ _ _ _ _ c.float_shape.result (float_form c.in-Float.float) c.in-Float.is c.float_shape.ensures (λ f back behind. behind) c.in_ok-word.ensures.only
+    plain c.args.names.now _ _ _ _ _ _ c.float_shape.result (float_form c.in-Float.float) (no_sign c.args.text.now c.args.at _ c.if-has_byte.false c.has_byte.ensures.only) c.in-Float.is c.float_shape.ensures (λ f back behind. behind) c.in_ok-word.ensures.only
 
 pub shape_at-returns-in-Text-clause-only : goal.shape_at-returns-in-Text-clause-only
-shape_at-returns-in-Text-clause-only t c = by_word _ _ _ _ _ _ _ c.in-Text.is c.in_ok-word.ensures.only (λ f back rest there behind deep stops. c.string_at.ensures.only f back rest there behind stops)
+shape_at-returns-in-Text-clause-only t c = by_word c.args.names.now _ _ _ _ _ _ _ (no_sign c.args.text.now c.args.at _ c.if-has_byte.false c.has_byte.ensures.only) c.in-Text.is c.in_ok-word.ensures.only (λ f back rest there behind deep stops. c.string_at.ensures.only f back rest there behind stops)
 
 pub shape_at-returns-in-FixedText-clause-only : goal.shape_at-returns-in-FixedText-clause-only
-shape_at-returns-in-FixedText-clause-only t c = by_word _ _ _ _ _ _ _ c.in-FixedText.is c.in_ok-word.ensures.only (λ f back rest there behind deep stops. c.padded_at.ensures.only f back rest there behind)
+shape_at-returns-in-FixedText-clause-only t c = by_word c.args.names.now _ _ _ _ _ _ _ (no_sign c.args.text.now c.args.at _ c.if-has_byte.false c.has_byte.ensures.only) c.in-FixedText.is c.in_ok-word.ensures.only (λ f back rest there behind deep stops. c.padded_at.ensures.only f back rest there behind)
 
 pub shape_at-returns-in-Array-clause-only : goal.shape_at-returns-in-Array-clause-only
-shape_at-returns-in-Array-clause-only t c = inner _ _ _ _ _ _ c.array_at.result c.in-Array.is c.in_ok-word.ensures.only c.array_at.ensures.only
+shape_at-returns-in-Array-clause-only t c = inner c.args.names.now _ _ _ _ _ _ c.array_at.result (no_sign c.args.text.now c.args.at _ c.if-has_byte.false c.has_byte.ensures.only) c.in-Array.is c.in_ok-word.ensures.only c.array_at.ensures.only
 
 pub shape_at-returns-in-Fixed-clause-only : goal.shape_at-returns-in-Fixed-clause-only
-shape_at-returns-in-Fixed-clause-only t c = inner _ _ _ _ _ _ c.fixed_at.result c.in-Fixed.is c.in_ok-word.ensures.only c.fixed_at.ensures.only
+shape_at-returns-in-Fixed-clause-only t c = inner c.args.names.now _ _ _ _ _ _ c.fixed_at.result (no_sign c.args.text.now c.args.at _ c.if-has_byte.false c.has_byte.ensures.only) c.in-Fixed.is c.in_ok-word.ensures.only c.fixed_at.ensures.only
 
 pub shape_at-returns-in-Struct-clause-only : goal.shape_at-returns-in-Struct-clause-only
-shape_at-returns-in-Struct-clause-only t c = inner _ _ _ _ _ _ c.struct_at.result c.in-Struct.is c.in_ok-word.ensures.only c.struct_at.ensures.only
+shape_at-returns-in-Struct-clause-only t c = inner c.args.names.now _ _ _ _ _ _ c.struct_at.result (no_sign c.args.text.now c.args.at _ c.if-has_byte.false c.has_byte.ensures.only) c.in-Struct.is c.in_ok-word.ensures.only c.struct_at.ensures.only
 
 pub shape_at-returns-in-Union-clause-only : goal.shape_at-returns-in-Union-clause-only
-shape_at-returns-in-Union-clause-only t c = inner _ _ _ _ _ _ c.union_at.result c.in-Union.is c.in_ok-word.ensures.only c.union_at.ensures.only
+shape_at-returns-in-Union-clause-only t c = inner c.args.names.now _ _ _ _ _ _ c.union_at.result (no_sign c.args.text.now c.args.at _ c.if-has_byte.false c.has_byte.ensures.only) c.in-Union.is c.in_ok-word.ensures.only c.union_at.ensures.only
 
 pub shape_at-returns-in-Tagged-clause-only : goal.shape_at-returns-in-Tagged-clause-only
-shape_at-returns-in-Tagged-clause-only t c = inner _ _ _ _ _ _ c.tagged_at.result c.in-Tagged.is c.in_ok-word.ensures.only c.tagged_at.ensures.only
+shape_at-returns-in-Tagged-clause-only t c = inner c.args.names.now _ _ _ _ _ _ c.tagged_at.result (no_sign c.args.text.now c.args.at _ c.if-has_byte.false c.has_byte.ensures.only) c.in-Tagged.is c.in_ok-word.ensures.only c.tagged_at.ensures.only
 
 pub array_at-returns-in_err-max-clause-only : goal.array_at-returns-in_err-max-clause-only
 array_at-returns-in_err-max-clause-only t c = λ f back rest is behind deep.
@@ -386,7 +397,7 @@ variant_at-returns-clause-only t c = λ v front rest is own deep stops.
 
 pub tagged_member_at-returns-in_err-name-clause-only : goal.tagged_member_at-returns-in_err-name-clause-only
 tagged_member_at-returns-in_err-name-clause-only t c = λ m front rest is is_member deep stops.
-    let own = tagged_parts m.id m.optional m.form front is_member in
+    let own = tagged_parts c.args.names.now m.id m.optional m.form front is_member in
     let there = tagged_there c.args.text.now front rest own.0 m.id m.optional own.2 c.args.at is own.7 in
     let memory = memory_of (option_map (string_bytes {Z = Global})) own.0 (c.args.at + length (name_text own.0)) c.in_err-name.field-0.0
     (c.in_err-name.ensures.only own.0 (tagged_member_text m.id m.optional own.2 ++ rest) there own.3 (tagged_first m.id m.optional own.2 rest own.4)) in
@@ -394,7 +405,7 @@ tagged_member_at-returns-in_err-name-clause-only t c = λ m front rest is is_mem
 
 pub tagged_member_at-returns-in_err-number-clause-only : goal.tagged_member_at-returns-in_err-number-clause-only
 tagged_member_at-returns-in_err-number-clause-only t c = λ m front rest is is_member deep stops.
-    let own = tagged_parts m.id m.optional m.form front is_member in
+    let own = tagged_parts c.args.names.now m.id m.optional m.form front is_member in
     let there = tagged_there c.args.text.now front rest own.0 m.id m.optional own.2 c.args.at is own.7 in
     let name = c.in_ok-name.ensures.only own.0 (tagged_member_text m.id m.optional own.2 ++ rest) there own.3 (tagged_first m.id m.optional own.2 rest own.4) in
     let from = behind_piece c.args.text.now (name_text own.0) (tagged_member_text m.id m.optional own.2 ++ rest) c.args.at c.in_ok-name.from there name.1 in
@@ -402,7 +413,7 @@ tagged_member_at-returns-in_err-number-clause-only t c = λ m front rest is is_m
 
 pub tagged_member_at-returns-in_err-first-clause-only : goal.tagged_member_at-returns-in_err-first-clause-only
 tagged_member_at-returns-in_err-first-clause-only t c = λ m front rest is is_member deep stops.
-    let own = tagged_parts m.id m.optional m.form front is_member in
+    let own = tagged_parts c.args.names.now m.id m.optional m.form front is_member in
     let there = tagged_there c.args.text.now front rest own.0 m.id m.optional own.2 c.args.at is own.7 in
     let name = c.in_ok-name.ensures.only own.0 (tagged_member_text m.id m.optional own.2 ++ rest) there own.3 (tagged_first m.id m.optional own.2 rest own.4) in
     let from = behind_piece c.args.text.now (name_text own.0) (tagged_member_text m.id m.optional own.2 ++ rest) c.args.at c.in_ok-name.from there name.1 in
@@ -412,7 +423,7 @@ tagged_member_at-returns-in_err-first-clause-only t c = λ m front rest is is_me
 
 pub tagged_member_at-returns-in_err-shape-clause-only : goal.tagged_member_at-returns-in_err-shape-clause-only
 tagged_member_at-returns-in_err-shape-clause-only t c = λ m front rest is is_member deep stops.
-    let own = tagged_parts m.id m.optional m.form front is_member in
+    let own = tagged_parts c.args.names.now m.id m.optional m.form front is_member in
     let there = tagged_there c.args.text.now front rest own.0 m.id m.optional own.2 c.args.at is own.7 in
     let name = c.in_ok-name.ensures.only own.0 (tagged_member_text m.id m.optional own.2 ++ rest) there own.3 (tagged_first m.id m.optional own.2 rest own.4) in
     let from = behind_piece c.args.text.now (name_text own.0) (tagged_member_text m.id m.optional own.2 ++ rest) c.args.at c.in_ok-name.from there name.1 in
@@ -429,7 +440,7 @@ tagged_member_at-returns-in_err-named-clause-only t c = λ m front rest is is_me
 
 pub tagged_member_at-returns-clause-only : goal.tagged_member_at-returns-clause-only
 tagged_member_at-returns-clause-only t c = λ m front rest is is_member deep stops.
-    let own = tagged_parts m.id m.optional m.form front is_member in
+    let own = tagged_parts c.args.names.now m.id m.optional m.form front is_member in
     let there = tagged_there c.args.text.now front rest own.0 m.id m.optional own.2 c.args.at is own.7 in
     let name = c.in_ok-name.ensures.only own.0 (tagged_member_text m.id m.optional own.2 ++ rest) there own.3 (tagged_first m.id m.optional own.2 rest own.4) in
     let from = behind_piece c.args.text.now (name_text own.0) (tagged_member_text m.id m.optional own.2 ++ rest) c.args.at c.in_ok-name.from there name.1 in
@@ -469,7 +480,7 @@ named_at-returns-clause-only t c = λ f front rest is is_text deep stops.
     (c.in_ok-with_name.ensures.named ∙ (λ i. named (name.0 i) (read.0 i)), omega (arith, read.1, name.1))
 
 pub member_at-returns-clause-found : goal.member_at-returns-clause-found
-member_at-returns-clause-found t c = rw c.reach.ensures (plain_member c.shape_at.result c.args.text.now c.args.at c.name_end-name.result c.shape_at.ensures.found)
+member_at-returns-clause-found t c = rw c.reach.ensures (plain_member c.args.names.now c.shape_at.result c.args.text.now c.args.at c.name_end-name.result c.shape_at.ensures.found)
 
 pub member_at-returns-then-left-eq0-clause-only : goal.member_at-returns-then-left-eq0-clause-only
 member_at-returns-then-left-eq0-clause-only t c = λ f front rest is is_member deep stops. absurd (omega (arith, deep, some_depth f, c.if-left-eq0.true))
@@ -477,67 +488,67 @@ member_at-returns-then-left-eq0-clause-only t c = λ f front rest is is_member d
 pub member_at-returns-then-has_name-clause-only : goal.member_at-returns-then-has_name-clause-only
 member_at-returns-then-has_name-clause-only t c =
     let there = c.has_name.ensures.there c.if-has_name.true in
-    with_colon c.args.text.now c.args.at c.name_end-name.result c.name_end-name.ensures.only c.args.left c.named_at.result _ (byte_and_rest c.args.text.now c.name_end-name.result 58 there.1 there.2) c.named_at.ensures.only
+    with_colon c.args.names.now c.args.text.now c.args.at c.name_end-name.result c.name_end-name.ensures.only c.name_end-name.ensures.none c.args.left c.named_at.result _ (byte_and_rest c.args.text.now c.name_end-name.result 58 there.1 there.2) c.named_at.ensures.only
 
 pub member_at-returns-clause-only : goal.member_at-returns-clause-only
 member_at-returns-clause-only t c =
-    rw c.reach.ensures (without_colon c.args.text.now c.args.at c.name_end-name.result c.name_end-name.ensures.only c.args.left c.shape_at.result (λ tail lt colon. absurd (false≢true (sym c.if-has_name.false ∙ c.has_name.ensures.only tail lt colon))) c.shape_at.ensures.only)
+    rw c.reach.ensures (without_colon c.args.names.now c.args.text.now c.args.at c.name_end-name.result c.name_end-name.ensures.only c.name_end-name.ensures.none c.args.left c.shape_at.result (λ tail lt colon. absurd (false≢true (sym c.if-has_name.false ∙ c.has_name.ensures.only tail lt colon))) c.shape_at.ensures.only)
 
 -- ---- items, one after the other
 
 pub members_at-loop-items-init : goal.members_at-loop-items-init
-members_at-loop-items-init t c = none_read members c.args.text.now c.args.at c.args.left c.new-items.result.items c.requires c.new-items.ensures.items
+members_at-loop-items-init t c = none_read (members c.args.names.now) c.args.text.now c.args.at c.args.left c.new-items.result.items c.requires c.new-items.ensures.items
 
 pub variants_at-loop-items-init : goal.variants_at-loop-items-init
-variants_at-loop-items-init t c = none_read variants c.args.text.now c.args.at c.args.left c.new-items.result.items c.requires c.new-items.ensures.items
+variants_at-loop-items-init t c = none_read (variants c.args.names.now) c.args.text.now c.args.at c.args.left c.new-items.result.items c.requires c.new-items.ensures.items
 
 pub tagged_members_at-loop-items-init : goal.tagged_members_at-loop-items-init
-tagged_members_at-loop-items-init t c = none_read tagged_members c.args.text.now c.args.at c.args.left c.new-items.result.items c.requires c.new-items.ensures.items
+tagged_members_at-loop-items-init t c = none_read (tagged_members c.args.names.now) c.args.text.now c.args.at c.args.left c.new-items.result.items c.requires c.new-items.ensures.items
 
 pub members_at-loop-items-preserved : goal.members_at-loop-items-preserved
 members_at-loop-items-preserved t c =
-    one_more members c.loop-items.invariant c.in_ok-item.item c.in_ok-item.end _ (search rules)
+    one_more (members c.args.names.now) c.loop-items.invariant c.in_ok-item.item c.in_ok-item.end _ (search rules)
     c.in_ok-item.ensures.end.0 (c.if-has_byte.ensures.there refl) c.in_ok-item.ensures.found c.in_ok-item.ensures.only c.in_ok-item.ensures.within
 
 pub variants_at-loop-items-preserved : goal.variants_at-loop-items-preserved
 variants_at-loop-items-preserved t c =
-    one_more variants c.loop-items.invariant c.in_ok-item.item c.in_ok-item.end _ (search rules)
+    one_more (variants c.args.names.now) c.loop-items.invariant c.in_ok-item.item c.in_ok-item.end _ (search rules)
     c.in_ok-item.ensures.end.0 (c.if-has_byte.ensures.there refl) c.in_ok-item.ensures.found c.in_ok-item.ensures.only c.in_ok-item.ensures.within
 
 pub tagged_members_at-loop-items-preserved : goal.tagged_members_at-loop-items-preserved
 tagged_members_at-loop-items-preserved t c =
-    one_more tagged_members c.loop-items.invariant c.in_ok-item.item c.in_ok-item.end _ (search rules)
+    one_more (tagged_members c.args.names.now) c.loop-items.invariant c.in_ok-item.item c.in_ok-item.end _ (search rules)
     c.in_ok-item.ensures.end.0 (c.if-has_byte.ensures.there refl) c.in_ok-item.ensures.found c.in_ok-item.ensures.only c.in_ok-item.ensures.within
 
 pub members_at-returns-in_err-item-clause-only : goal.members_at-returns-in_err-item-clause-only
-members_at-returns-in_err-item-clause-only t c = not_one members c.loop-items.invariant _ _ (passed_on _ _ c.from_residual.ensures.1) c.in_err-item.ensures.only
+members_at-returns-in_err-item-clause-only t c = not_one (members c.args.names.now) c.loop-items.invariant _ _ (passed_on _ _ c.from_residual.ensures.1) c.in_err-item.ensures.only
 
 pub variants_at-returns-in_err-item-clause-only : goal.variants_at-returns-in_err-item-clause-only
-variants_at-returns-in_err-item-clause-only t c = not_one variants c.loop-items.invariant _ _ (passed_on _ _ c.from_residual.ensures.1) c.in_err-item.ensures.only
+variants_at-returns-in_err-item-clause-only t c = not_one (variants c.args.names.now) c.loop-items.invariant _ _ (passed_on _ _ c.from_residual.ensures.1) c.in_err-item.ensures.only
 
 pub tagged_members_at-returns-in_err-item-clause-only : goal.tagged_members_at-returns-in_err-item-clause-only
-tagged_members_at-returns-in_err-item-clause-only t c = not_one tagged_members c.loop-items.invariant _ _ (passed_on _ _ c.from_residual.ensures.1) c.in_err-item.ensures.only
+tagged_members_at-returns-in_err-item-clause-only t c = not_one (tagged_members c.args.names.now) c.loop-items.invariant _ _ (passed_on _ _ c.from_residual.ensures.1) c.in_err-item.ensures.only
 
 pub members_at-returns-in_err-end-clause-only : goal.members_at-returns-in_err-end-clause-only
 members_at-returns-in_err-end-clause-only t c =
-    no_bracket members c.loop-items.invariant c.in_ok-item.item c.in_ok-item.end _ refl c.in_ok-item.ensures.only c.if-has_byte.ensures.only _ _ c.in_err-end.ensures.only
+    no_bracket (members c.args.names.now) c.loop-items.invariant c.in_ok-item.item c.in_ok-item.end _ refl c.in_ok-item.ensures.only c.if-has_byte.ensures.only _ _ c.in_err-end.ensures.only
 
 pub variants_at-returns-in_err-end-clause-only : goal.variants_at-returns-in_err-end-clause-only
 variants_at-returns-in_err-end-clause-only t c =
-    no_bracket variants c.loop-items.invariant c.in_ok-item.item c.in_ok-item.end _ refl c.in_ok-item.ensures.only c.if-has_byte.ensures.only _ _ c.in_err-end.ensures.only
+    no_bracket (variants c.args.names.now) c.loop-items.invariant c.in_ok-item.item c.in_ok-item.end _ refl c.in_ok-item.ensures.only c.if-has_byte.ensures.only _ _ c.in_err-end.ensures.only
 
 pub tagged_members_at-returns-in_err-end-clause-only : goal.tagged_members_at-returns-in_err-end-clause-only
 tagged_members_at-returns-in_err-end-clause-only t c =
-    no_bracket tagged_members c.loop-items.invariant c.in_ok-item.item c.in_ok-item.end _ refl c.in_ok-item.ensures.only c.if-has_byte.ensures.only _ _ c.in_err-end.ensures.only
+    no_bracket (tagged_members c.args.names.now) c.loop-items.invariant c.in_ok-item.item c.in_ok-item.end _ refl c.in_ok-item.ensures.only c.if-has_byte.ensures.only _ _ c.in_err-end.ensures.only
 
 pub members_at-returns-else-has_byte-clause-only : goal.members_at-returns-else-has_byte-clause-only
 members_at-returns-else-has_byte-clause-only t c =
-    all_only members c.loop-items.invariant c.in_ok-item.item c.in_ok-item.end _ (search rules) c.in_ok-item.ensures.only c.if-has_byte.ensures.only c.push.new.self c.in_ok-end.end refl c.in_ok-end.ensures.end.0
+    all_only (members c.args.names.now) c.loop-items.invariant c.in_ok-item.item c.in_ok-item.end _ (search rules) c.in_ok-item.ensures.only c.if-has_byte.ensures.only c.push.new.self c.in_ok-end.end refl c.in_ok-end.ensures.end.0
 
 pub variants_at-returns-else-has_byte-clause-only : goal.variants_at-returns-else-has_byte-clause-only
 variants_at-returns-else-has_byte-clause-only t c =
-    all_only variants c.loop-items.invariant c.in_ok-item.item c.in_ok-item.end _ (search rules) c.in_ok-item.ensures.only c.if-has_byte.ensures.only c.push.new.self c.in_ok-end.end refl c.in_ok-end.ensures.end.0
+    all_only (variants c.args.names.now) c.loop-items.invariant c.in_ok-item.item c.in_ok-item.end _ (search rules) c.in_ok-item.ensures.only c.if-has_byte.ensures.only c.push.new.self c.in_ok-end.end refl c.in_ok-end.ensures.end.0
 
 pub tagged_members_at-returns-else-has_byte-clause-only : goal.tagged_members_at-returns-else-has_byte-clause-only
 tagged_members_at-returns-else-has_byte-clause-only t c =
-    all_only tagged_members c.loop-items.invariant c.in_ok-item.item c.in_ok-item.end _ (search rules) c.in_ok-item.ensures.only c.if-has_byte.ensures.only c.push.new.self c.in_ok-end.end refl c.in_ok-end.ensures.end.0
+    all_only (tagged_members c.args.names.now) c.loop-items.invariant c.in_ok-item.item c.in_ok-item.end _ (search rules) c.in_ok-item.ensures.only c.if-has_byte.ensures.only c.push.new.self c.in_ok-end.end refl c.in_ok-end.ensures.end.0

@@ -22,7 +22,7 @@ abbrev pub decreases-members_at : goal.decreases-members_at
 decreases-members_at l = 5 * l.left + 3
 
 abbrev pub invariant-members_at-loop-items : goal.invariant-members_at-loop-items
-invariant-members_at-loop-items l = Reading members l.text l.at l.left l.items.items l.next
+invariant-members_at-loop-items l = Reading (members l.names) l.text l.at l.left l.items.items l.next
 
 abbrev pub decreases-members_at-loop-items : goal.decreases-members_at-loop-items
 decreases-members_at-loop-items l = length l.text - l.next
@@ -40,7 +40,7 @@ abbrev pub decreases-variants_at : goal.decreases-variants_at
 decreases-variants_at l = 5 * l.left + 2
 
 abbrev pub invariant-variants_at-loop-items : goal.invariant-variants_at-loop-items
-invariant-variants_at-loop-items l = Reading variants l.text l.at l.left l.items.items l.next
+invariant-variants_at-loop-items l = Reading (variants l.names) l.text l.at l.left l.items.items l.next
 
 abbrev pub decreases-variants_at-loop-items : goal.decreases-variants_at-loop-items
 decreases-variants_at-loop-items l = length l.text - l.next
@@ -55,7 +55,7 @@ abbrev pub decreases-tagged_members_at : goal.decreases-tagged_members_at
 decreases-tagged_members_at l = 5 * l.left + 2
 
 abbrev pub invariant-tagged_members_at-loop-items : goal.invariant-tagged_members_at-loop-items
-invariant-tagged_members_at-loop-items l = Reading tagged_members l.text l.at l.left l.items.items l.next
+invariant-tagged_members_at-loop-items l = Reading (tagged_members l.names) l.text l.at l.left l.items.items l.next
 
 abbrev pub decreases-tagged_members_at-loop-items : goal.decreases-tagged_members_at-loop-items
 decreases-tagged_members_at-loop-items l = length l.text - l.next

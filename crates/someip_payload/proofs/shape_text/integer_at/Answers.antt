@@ -17,12 +17,12 @@ no_brace : (rest tail : List ℕ) → rest ≡ 123 ∷ tail → EndsShape rest �
 no_brace rest tail is stops = ⊎_elim (λ e. omega (arith, e)) (⊎_elim (λ e. omega (arith, e)) (λ e. omega (arith, e))) (subst EndsShape is stops)
 
 pub returns-then-not-has_byte-clause-found : goal.returns-then-not-has_byte-clause-found
-returns-then-not-has_byte-clause-found c =
+returns-then-not-has_byte-clause-found c = λ known.
     let i = c.args.integer in
     rw (slice_range-empty c.args.text.now c.args.at, append-nil (integer_word i), c.integer_shape-shape.ensures) (integer_text (integer_form i) (integer_word i) (integer_is i))
 
 pub returns-clause-found : goal.returns-clause-found
-returns-clause-found c =
+returns-clause-found c = λ known.
     let i = c.args.integer in
     let brace = c.has_byte.ensures.there c.if-not-has_byte.false in
     let whole = c.in_ok-labels.ensures.found in

@@ -10,7 +10,7 @@ use Rattle.someip_payload.proofs.ShapePieces.{padded_shape, room_piece}
 use Rattle.someip_payload.proofs.shape_text.padded_at.Goals as goal
 
 pub returns-clause-found : goal.returns-clause-found
-returns-clause-found c =
+returns-clause-found c = λ known.
     let from : c.in_ok-from.from ≡ c.args.at + 1 = c.in_ok-from.ensures.end.0 in
     let last : c.in_ok-from.from < c.in_ok-room.last = c.in_ok-room.ensures.end.0 in
     let end : c.in_ok-end.end ≡ c.in_ok-room.last + 1 = c.in_ok-end.ensures.end.0 in

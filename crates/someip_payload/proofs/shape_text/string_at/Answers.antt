@@ -5,7 +5,7 @@ use Rattle.someip_payload.proofs.ShapePieces.{string_shape}
 use Rattle.someip_payload.proofs.shape_text.string_at.Goals as goal
 
 pub returns-clause-found : goal.returns-clause-found
-returns-clause-found c = string_shape c.args.encoding c.in_ok-width.width _ _ c.or_32.ensures c.in_ok-width.ensures.found
+returns-clause-found c = λ known. string_shape c.args.encoding c.in_ok-width.width _ _ c.or_32.ensures c.in_ok-width.ensures.found
 
 pub returns-in_err-width-clause-only : goal.returns-in_err-width-clause-only
 returns-in_err-width-clause-only c = λ f back rest is behind stops.

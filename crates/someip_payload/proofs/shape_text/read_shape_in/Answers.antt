@@ -1,7 +1,7 @@
 use Rattle.std.proofs.Common.{ℕ, List, [], sym, ◌∙◌, arith}
 use Rattle.std.proofs.lemmas.Result.{err_from_is_err_and}
 use Rattle.std.proofs.lemmas.List.{append-nil}
-use Rattle.someip_payload.proofs.shape_text.read_shape.Goals as goal
+use Rattle.someip_payload.proofs.shape_text.read_shape_in.Goals as goal
 
 pub returns-in_err-shape-clause-only : goal.returns-in_err-shape-clause-only
 returns-in_err-shape-clause-only c = λ f is deep.
