@@ -114,14 +114,17 @@ cli_asks = (
   (
     two_asks _ (codes "shape") (codes "hex") _ (λ value. refl) refl refl refl,
     (
-      one_asks _ (codes "file") _ (λ value. refl) refl refl,
+      two_asks _ (codes "shape") (codes "value") _ (λ value. refl) refl refl refl,
       (
-        two_asks _ (codes "setup") (codes "schedule") _ (λ value. refl) refl refl refl,
+        one_asks _ (codes "file") _ (λ value. refl) refl refl,
         (
-          one_asks _ (codes "file") _ (λ value. refl) refl refl,
+          two_asks _ (codes "setup") (codes "schedule") _ (λ value. refl) refl refl refl,
           (
-            two_asks _ (codes "setup") (codes "schedule") _ (λ value. refl) refl refl refl,
-            (one_asks _ (codes "recording") _ (λ value. refl) refl refl, (help_asks _ refl, tt)),
+            one_asks _ (codes "file") _ (λ value. refl) refl refl,
+            (
+              two_asks _ (codes "setup") (codes "schedule") _ (λ value. refl) refl refl refl,
+              (one_asks _ (codes "recording") _ (λ value. refl) refl refl, (help_asks _ refl, tt)),
+            ),
           ),
         ),
       ),

@@ -10,7 +10,7 @@ use Rattle.clap.specs.declared.error.ErrorKind.{ErrorKind}
 use Rattle.clap.specs.declared.error.ErrorKind.TheVariants as kind
 use Rattle.clap.specs.declared.builder.ArgAction.TheVariants.{SetTrue}
 use Rattle.someipctl_cli.specs.declared.command.Command.{Command}
-use Rattle.someipctl_cli.specs.declared.command.Command.TheVariants.{Show, Payload, Vectors, Run, Recording, Chart, Audit}
+use Rattle.someipctl_cli.specs.declared.command.Command.TheVariants.{Show, Payload, Encode, Vectors, Run, Recording, Chart, Audit}
 use Rattle.someipctl_cli.specs.declared.command.AuditOptions.{AuditOptions}
 use Rattle.someipctl_cli.specs.declared.command.RecordingOptions.{RecordingOptions}
 use Rattle.someipctl_cli.specs.declared.command.LineError.{LineError}
@@ -40,6 +40,10 @@ show_usage = (with_rule (with_filters (new_app (codes "show"))) (required (codes
 -- `payload SHAPE HEX`
 abbrev pub payload_usage : Shape
 payload_usage = (with_rule (with_rule (new_app (codes "payload")) (required (codes "shape"))) (required (codes "hex"))).top
+
+-- `encode SHAPE VALUE`
+abbrev pub encode_usage : Shape
+encode_usage = (with_rule (with_rule (new_app (codes "encode")) (required (codes "shape"))) (required (codes "value"))).top
 
 -- `vectors FILE`
 abbrev pub vectors_usage : Shape
@@ -81,11 +85,11 @@ audit_usage = (with_rule audit_options (required (codes "recording"))).top
 abbrev pub program : App
 program = on_top (λ top. record top { subcommand_required = true }) (new_app (codes "someipctl"))
 
--- the program with the commands that read bytes
+-- the program with the commands that read and write bytes
 abbrev pub with_byte_commands : App
-with_byte_commands = with_subcommand (with_subcommand program show_usage) payload_usage
+with_byte_commands = with_subcommand (with_subcommand (with_subcommand program show_usage) payload_usage) encode_usage
 
--- the program with the commands that read bytes, vectors and schedules
+-- the program with the commands for bytes, vectors and schedules
 abbrev pub with_file_commands : App
 with_file_commands = with_subcommand (with_subcommand with_byte_commands vectors_usage) run_usage
 
@@ -116,6 +120,7 @@ pub record AuditRequest : Type 0 where
 pub data Request : Type 0 where
   show_request : Text → Option Text → Option Text → Request
   payload_request : Text → Text → Request
+  encode_request : Text → Text → Request
   vectors_request : Text → Request
   run_request : Text → Text → Option Text → Bool → Request
   recording_request : Text → RecordingRequest → Request
@@ -144,6 +149,7 @@ asked_by_audit_options o = record { ports = text_at o.ports; answer_ms = text_at
 abbrev pub asked_by_command : Command → Request
 asked_by_command (Show capture service types) = show_request capture.now (text_at service) (text_at types)
 asked_by_command (Payload shape hex) = payload_request shape.now hex.now
+asked_by_command (Encode shape value) = encode_request shape.now value.now
 asked_by_command (Vectors file) = vectors_request file.now
 asked_by_command (Run setup schedule expect lines) = run_request setup.now schedule.now (text_at expect) lines
 asked_by_command (Recording file options) = recording_request file.now (asked_by_options options)
@@ -157,6 +163,10 @@ asked_by_show value = option_map (λ capture. show_request capture (value (codes
 -- what `payload` asks for
 abbrev pub asked_by_payload : (Text → Option Text) → Option Request
 asked_by_payload value = option_and_then (λ shape. option_map (payload_request shape) (value (codes "hex"))) (value (codes "shape"))
+
+-- what `encode` asks for
+abbrev pub asked_by_encode : (Text → Option Text) → Option Request
+asked_by_encode value = option_and_then (λ shape. option_map (encode_request shape) (value (codes "value"))) (value (codes "shape"))
 
 -- what `vectors` asks for
 abbrev pub asked_by_vectors : (Text → Option Text) → Option Request
@@ -215,11 +225,12 @@ abbrev pub asked_by_subcommand : Text → (Text → Option Text) → Option Requ
 asked_by_subcommand name value =
     if bytes_eq name (codes "show") then asked_by_show value
     else (if bytes_eq name (codes "payload") then asked_by_payload value
+    else (if bytes_eq name (codes "encode") then asked_by_encode value
     else (if bytes_eq name (codes "vectors") then asked_by_vectors value
     else (if bytes_eq name (codes "run") then asked_by_run value
     else (if bytes_eq name (codes "recording") then asked_by_recording value
     else (if bytes_eq name (codes "chart") then asked_by_chart value
-    else (if bytes_eq name (codes "audit") then asked_by_audit value else None))))))
+    else (if bytes_eq name (codes "audit") then asked_by_audit value else None)))))))
 
 -- what the subcommand that was entered asks for, where one was
 abbrev pub asked_by_entered : Option (Text × List Row) → Option Request

@@ -5,7 +5,7 @@ ghost use Rattle.someipctl_cli.specs.declared.command.LineError.TheVariants.{Out
 ghost use Rattle.someipctl_cli.specs.CommandLine.{IsLineErrorOf, IsTaken, RefusesWords};
 ghost use Rattle.someipctl_cli.specs.CommandLine.{asked_by_audit, asked_by_audit_options, asked_by_chart};
 ghost use Rattle.someipctl_cli.specs.CommandLine.{asked_by_command, asked_by_entered, asked_by_options};
-ghost use Rattle.someipctl_cli.specs.CommandLine.{asked_by_payload, asked_by_recording, asked_by_run};
+ghost use Rattle.someipctl_cli.specs.CommandLine.{asked_by_encode, asked_by_payload, asked_by_recording, asked_by_run};
 ghost use Rattle.someipctl_cli.specs.CommandLine.{asked_by_show, asked_by_subcommand, asked_by_vectors};
 ghost use Rattle.someipctl_cli.specs.CommandLine.{audit_options_by, is_on, recording_options_by, requested};
 
@@ -34,6 +34,13 @@ pub enum Command<'w> {
         shape: &'w str,
         /// The payload in hex, `-` for no bytes.
         hex: &'w str,
+    },
+    /// Write a value as a payload, by a shape.
+    Encode {
+        /// The shape's text.
+        shape: &'w str,
+        /// The value's text.
+        value: &'w str,
     },
     /// Compare what is printed of datagrams and payloads with what a file says.
     Vectors {
@@ -182,6 +189,7 @@ fn matched_under<'w>(name: &str, rest: &ArgMatches<'w>) -> Option<Command<'w>>
     match name {
         "show" => show_matched(rest),
         "payload" => payload_matched(rest),
+        "encode" => encode_matched(rest),
         "vectors" => vectors_matched(rest),
         "run" => run_matched(rest),
         "recording" => recording_matched(rest),
@@ -208,6 +216,14 @@ fn payload_matched<'w>(matches: &ArgMatches<'w>) -> Option<Command<'w>>
     let shape = matches.get_str("shape")?;
     let hex = matches.get_str("hex")?;
     Some(Command::Payload { shape, hex })
+}
+
+fn encode_matched<'w>(matches: &ArgMatches<'w>) -> Option<Command<'w>>
+    ensures { option_map asked_by_command result ≡ asked_by_encode (first_value (found_of matches.now)) }
+{
+    let shape = matches.get_str("shape")?;
+    let value = matches.get_str("value")?;
+    Some(Command::Encode { shape, value })
 }
 
 fn vectors_matched<'w>(matches: &ArgMatches<'w>) -> Option<Command<'w>>

@@ -19,10 +19,12 @@ prints
 /// Of `payload`.
 pub(crate) const PAYLOAD_EXAMPLE: &str = "\
 SHAPE says what the payload looks like, HEX is the payload in hex without spaces, - for no bytes.
-A shape is bool, u8, u16, u32, u64, i8, i16, i32 or i64; utf8, utf16, array<MAX,shape> or
-struct(shape,..), with /8, /16 or /32 behind the word for the width of the length field;
-fixed<N,shape>; union(NUMBER:shape,..); or tagged(ID:shape,ID?:shape,..), with a width as above,
-where ? marks a member that may be absent, which is printed as -. So the calls
+A shape is bool, u8, u16, u32, u64, i8, i16, i32, i64, f32 or f64, with le behind a number of more
+than one byte for the other order; utf8, utf16, array<MAX,shape> or struct(shape,..), with /8, /16
+or /32 behind the word for the width of the length field; utf8fix<N> or utf16fix<N>, a text in N
+bytes; fixed<N,shape>; union(NUMBER:shape,..); or tagged(ID:shape,ID?:shape,..), with a width as
+above, where ? marks a member that may be absent, which is printed as -. NAME: in front of a member
+names it, and u8{0=OFF,1=ON} names values. So the calls
   someipctl payload 'array<2,u16>' 0000000400010002
   someipctl payload 'tagged/8(1:u8,2?:utf8)' 070001071009ffff
 print
@@ -32,6 +34,19 @@ and
   value {7,-}
   used 8 of 8
 where member 2 is absent, and the item of the unknown ID 9 is skipped.";
+
+/// Of `encode`.
+pub(crate) const ENCODE_EXAMPLE: &str = "\
+SHAPE is that of `payload`, VALUE the value as `payload` prints it. Names of members may be left
+out, a number may stand for a name, and a float may have any decimal form. A VALUE that begins with
+- stands behind --. So the calls
+  someipctl encode 'struct(speed:f32,gear:u8{0=P,3=D})' '(speed=20.5,gear=D)'
+  someipctl encode 'array/8<2,i8>' '[-1,2]'
+  someipctl encode i16 -- -2
+print
+  41a4000003
+  02ff02
+  fffe";
 
 /// Of `vectors`.
 pub(crate) const VECTORS_EXAMPLE: &str = "\

@@ -38,7 +38,7 @@ pub enum Refusal {
     /// That of a schedule.
     #[error(transparent)]
     Schedule(ScheduleRefusal),
-    /// That of the arguments of `payload`.
+    /// That of the arguments of `payload` or of `encode`.
     #[error(transparent)]
     Payload(PayloadRefusal),
     /// A recording has a fault. What comes before it was shown.

@@ -5,14 +5,14 @@
 ghost use Rattle.std.specs.Prelude.{◌≡◌, IfOk, false};
 ghost use Rattle.clap.specs.Words.{App, Rule, Shape, app_of, rule_of, shape_of, with_rule, with_subcommand};
 ghost use Rattle.clap.specs.declared.builder.Command.TheViews.{out-Command};
-ghost use Rattle.someipctl_cli.specs.CommandLine.{audit_usage, chart_usage, cli, payload_usage, program};
+ghost use Rattle.someipctl_cli.specs.CommandLine.{audit_usage, chart_usage, cli, encode_usage, payload_usage, program};
 ghost use Rattle.someipctl_cli.specs.CommandLine.{recording_usage, run_usage, show_usage, vectors_usage};
 ghost use Rattle.someipctl_cli.specs.CommandLine.{flag as flag_rule, required, valued};
 ghost use Rattle.someipctl_cli.specs.CommandLine.{with_filters, with_inputs, with_whole};
 
 use crate::examples::{
-    AUDIT_EXAMPLE, CHART_EXAMPLE, PAYLOAD_EXAMPLE, PROGRAM_EXAMPLE, RECORDING_EXAMPLE, RUN_EXAMPLE,
-    SHOW_EXAMPLE, VECTORS_EXAMPLE,
+    AUDIT_EXAMPLE, CHART_EXAMPLE, ENCODE_EXAMPLE, PAYLOAD_EXAMPLE, PROGRAM_EXAMPLE,
+    RECORDING_EXAMPLE, RUN_EXAMPLE, SHOW_EXAMPLE, VECTORS_EXAMPLE,
 };
 use clap::{Arg, ArgAction};
 use std::alloc::{AllocError, Global};
@@ -23,7 +23,8 @@ pub(crate) fn definition<'d>(alloc: Global) -> Result<clap::Command<'d>, AllocEr
 {
     let show = adding(program_definition(alloc), show_definition(alloc));
     let payload = adding(show, payload_definition(alloc));
-    let vectors = adding(payload, vectors_definition(alloc));
+    let encode = adding(payload, encode_definition(alloc));
+    let vectors = adding(encode, vectors_definition(alloc));
     let run = adding(vectors, run_definition(alloc));
     let recording = adding(run, recording_definition(alloc));
     let chart = adding(recording, chart_definition(alloc));
@@ -75,6 +76,17 @@ fn payload_definition<'d>(alloc: Global) -> Result<clap::Command<'d>, AllocError
         .after_help(PAYLOAD_EXAMPLE);
     let first = taking(Ok(command), needed(alloc, "shape", "SHAPE"));
     taking(first, needed(alloc, "hex", "HEX"))
+}
+
+fn encode_definition<'d>(alloc: Global) -> Result<clap::Command<'d>, AllocError>
+    ensures shape { IfOk result (λ command. shape_of command ≡ encode_usage) }
+    ensures local { IfOk result (λ command. (out-Command command).has_globals ≡ false) }
+{
+    let command = clap::Command::new(alloc, "encode")
+        .about("Writes a value as a payload, by its shape")
+        .after_help(ENCODE_EXAMPLE);
+    let first = taking(Ok(command), needed(alloc, "shape", "SHAPE"));
+    taking(first, needed(alloc, "value", "VALUE"))
 }
 
 fn vectors_definition<'d>(alloc: Global) -> Result<clap::Command<'d>, AllocError>

@@ -2,7 +2,7 @@
 //! function that does nothing.
 ghost use Rattle.std.specs.Prelude.{◌≡◌, ◌∷◌, [], codes, false, true, Some, None, IsSome, ℕ, List};
 ghost use Rattle.someipctl_cli.specs.CommandLine.{CallsForHelp, HaveFault, IsTaken, is_flag, line};
-ghost use Rattle.someipctl_cli.specs.CommandLine.{requested, show_request, vectors_request, run_request};
+ghost use Rattle.someipctl_cli.specs.CommandLine.{requested, show_request, encode_request, vectors_request, run_request};
 ghost use Rattle.someipctl_cli.specs.CommandLine.{recording_options_of, recording_request, chart_request};
 ghost use Rattle.someipctl_cli.specs.CommandLine.{audit_options_of, audit_request};
 
@@ -25,6 +25,10 @@ pub fn words_show_any_capture()
 pub fn calls_by_example()
     ensures show { requested (line (codes "show" ∷ codes "x" ∷ []))
         ≡ Some (show_request (codes "x") None None) }
+
+    // A value that begins with a hyphen stands behind two hyphens.
+    ensures encode { requested (line (codes "encode" ∷ codes "i8" ∷ codes "--" ∷ codes "-1" ∷ []))
+        ≡ Some (encode_request (codes "i8") (codes "-1")) }
 
     ensures vectors { requested (line (codes "vectors" ∷ codes "x" ∷ []))
         ≡ Some (vectors_request (codes "x")) }

@@ -15,6 +15,7 @@ use someipctl_recordings::ports::ports_in;
 use someipctl_recordings::{Asked, ShownRecording, WholeLimits, limits_in, show_recording};
 use someipctl_run::chart::chart_schedule;
 use someipctl_run::{TraceForm, compare_schedule, read_expected, read_setup, run_schedule_in_form};
+use someipctl_show::encode::encode;
 use someipctl_show::payload::payload;
 use someipctl_show::services::{AskedService, services_in};
 use someipctl_show::show::show;
@@ -105,6 +106,10 @@ fn run_command<'w, R: Files + Print + Eprint + Input + AllocGlobal>(
         Command::Payload { shape, hex } => {
             let told = payload(rt.alloc(), shape, hex, &mut io::writer(rt));
             // No file is read, so none is named.
+            told.map_err(|fault| Failure::of(fault.map(Refusal::Payload), ""))
+        }
+        Command::Encode { shape, value } => {
+            let told = encode(rt.alloc(), shape, value, &mut io::writer(rt));
             told.map_err(|fault| Failure::of(fault.map(Refusal::Payload), ""))
         }
         Command::Vectors { file } => judge_file(rt, file),

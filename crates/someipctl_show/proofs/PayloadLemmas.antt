@@ -1,6 +1,6 @@
 -- What is told of a payload.
 use Rattle.std.proofs.Common.{◌≡◌, ◌≢◌, ◌⊎◌, ℕ, List, take, drop, Result, Ok, Err, Option, inl, inr, refl, sym, subst}
-use Rattle.std.specs.Io.KnownBytes.{Appends}
+use Rattle.std.specs.Io.KnownBytes.{Appends, Keeps}
 use Rattle.std.proofs.lemmas.List.{take-append-drop}
 use Rattle.someip_payload_values.specs.declared.PayloadError.{PayloadError}
 use Rattle.someip_payload_values.specs.declared.PayloadError.TheVariants as faults
@@ -8,7 +8,13 @@ use Rattle.someip_payload_values.specs.Data.{Form, Data}
 use Rattle.someip_payload_values.specs.Check.{checked}
 use Rattle.someip_payload_codec.specs.Faults.{FaultIn, IsFirstFault, whole}
 use Rattle.someip_payload_values.specs.Steps.{Fails}
+use Rattle.someipctl_io.specs.declared.fault.Fault.{Fault}
+use Rattle.someipctl_io.specs.declared.fault.Fault.TheVariants.{Refused, CannotRead, CannotWrite, OutOfMemory}
 use Rattle.someipctl_io.specs.declared.outcome.Outcome.{Outcome}
+use Rattle.someipctl_show.specs.declared.payload.PayloadRefusal.{PayloadRefusal}
+use Rattle.someipctl_show.specs.declared.payload.PayloadRefusal.TheVariants.{BadShape, BadHex, BadValue}
+use Rattle.someip_payload.specs.ShapeText.{IsTextOf}
+use Rattle.someipctl_show.specs.Encoding.{AnswersValue, RefusesText, RefusesValue, ShowsEncodedBeginning}
 use Rattle.someipctl_show.specs.Payload.{AnswersPayload, IsFaultOf, ShowsPayloadBeginning}
 
 -- two answers of a reading are one fault
@@ -46,3 +52,19 @@ pub beginning_told : (shape_text hex text : List ℕ) (outcome : Outcome) (a b :
     → Appends a b (take n text) → ShowsPayloadBeginning shape_text hex a b
 beginning_told shape_text hex text outcome a b n answers wrote =
     (take n text, drop n text, outcome, subst (λ t. AnswersPayload shape_text hex t outcome) (sym (take-append-drop n text)) answers, wrote)
+
+-- the same of the text that answers the arguments of `encode`
+pub beginning_encoded : (shape_text value_text text : List ℕ) (outcome : Outcome) (a b : Option (List ℕ)) (n : ℕ) → AnswersValue shape_text value_text text outcome
+    → Appends a b (take n text) → ShowsEncodedBeginning shape_text value_text a b
+beginning_encoded shape_text value_text text outcome a b n answers wrote =
+    (take n text, drop n text, outcome, subst (λ t. AnswersValue shape_text value_text t outcome) (sym (take-append-drop n text)) answers, wrote)
+
+-- a text that says no value of the shape is refused, and nothing was written
+pub refused_value : (shape_text text : List ℕ) (shape : Form) (fault : Fault PayloadRefusal) (a b : Option (List ℕ)) → IsTextOf shape shape_text → RefusesText shape text fault
+    → Keeps a b → RefusesValue shape_text text fault a b
+refused_value shape_text text shape (Refused (BadValue place)) a b named refused keeps = ((shape, named, refused), keeps)
+refused_value shape_text text shape (Refused (BadShape place)) a b named refused keeps = absurd refused
+refused_value shape_text text shape (Refused BadHex) a b named refused keeps = absurd refused
+refused_value shape_text text shape CannotRead a b named refused keeps = absurd refused
+refused_value shape_text text shape CannotWrite a b named refused keeps = absurd refused
+refused_value shape_text text shape OutOfMemory a b named refused keeps = keeps

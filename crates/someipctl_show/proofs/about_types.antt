@@ -2,4 +2,5 @@ pub mod PlaceLemmas
 pub mod IndexLemmas
 pub mod UnknownLemmas
 pub mod TableLemmas
+pub mod FaultLemmas
 pub mod ReadLemmas

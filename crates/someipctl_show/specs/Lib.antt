@@ -9,3 +9,4 @@ pub mod Payload
 pub mod VectorLines
 pub mod Vectors
 pub mod types
+pub mod Encoding

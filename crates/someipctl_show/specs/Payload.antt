@@ -21,7 +21,7 @@ use Rattle.hex.specs.Hex.{decode_of}
 use Rattle.someip_payload.specs.declared.ShapeTextError.{ShapeTextError}
 use Rattle.someip_payload.specs.declared.ShapeTextError.TheVariants as shapes
 use Rattle.someipctl_show.specs.declared.payload.PayloadRefusal.{PayloadRefusal}
-use Rattle.someipctl_show.specs.declared.payload.PayloadRefusal.TheVariants.{BadShape, BadHex}
+use Rattle.someipctl_show.specs.declared.payload.PayloadRefusal.TheVariants.{BadShape, BadHex, BadValue}
 use Rattle.someipctl_show.specs.Capture.{is_dash}
 
 -- the bytes that an argument says: none for `-`, else those of its hex digits, of which there is one at least
@@ -79,6 +79,7 @@ IsRefusedShape text place = (place ≤ length text) × ((shape : Form) → IsTex
 abbrev pub RefusesPayload : List ℕ → List ℕ → Fault PayloadRefusal → Option (List ℕ) → Option (List ℕ) → Type 0
 RefusesPayload shape_text hex (Refused (BadShape place)) before after = IsRefusedShape shape_text place × Keeps before after
 RefusesPayload shape_text hex (Refused BadHex) before after = ((shape : Form) × IsTextOf shape shape_text) × (argument_bytes hex ≡ None) × Keeps before after
+RefusesPayload shape_text hex (Refused (BadValue place)) before after = ⊥
 RefusesPayload shape_text hex CannotRead before after = ⊥
 RefusesPayload shape_text hex CannotWrite before after = ShowsPayloadBeginning shape_text hex before after
 RefusesPayload shape_text hex OutOfMemory before after = Keeps before after

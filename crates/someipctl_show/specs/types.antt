@@ -6,6 +6,6 @@ pub mod GoodTypes
 pub mod Keys
 pub mod Tables
 pub mod Says
-pub mod Refusals
+pub mod Faults
 pub mod TypesInput
 pub mod Examples

@@ -5,7 +5,7 @@
 //! - [`services`]: the services whose datagrams are asked for;
 //! - [`value_lines`]: an item of a datagram with the line of its value;
 //! - [`readings`]: what a datagram holds for Service Discovery, item by item;
-//! - [`payload`]: the value that bytes have by a shape;
+//! - [`payload`]: the value that bytes have by a shape; [`encode`]: the bytes of a value;
 //! - [`vectors`]: whether what is printed is what a file expects;
 //! - [`types`]: types files, and the line of the value of a message;
 //! - [`comma_words`]: the words of an argument;
@@ -20,6 +20,7 @@
 #![tactic(auto)]
 
 mod capture;
+pub mod encode;
 pub mod laws;
 pub mod payload;
 pub mod readings;

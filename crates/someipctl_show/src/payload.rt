@@ -8,13 +8,15 @@ ghost use Rattle.someipctl_show.specs.Payload.{argument_bytes, refusal_of_shape}
 ghost use Rattle.someipctl_show.specs.Payload.{ShowsPayload, RefusesPayload, IsTold};
 
 use hex::FromHexError;
-use someip_payload::{PayloadError, Shape, ShapeTextError, Told, decode, read_shape};
+use someip_payload::{
+    PayloadError, Shape, ShapeTextError, Told, ValueTextError, decode, read_shape,
+};
 use someipctl_io::{Fault, Outcome, write_text};
 use std::alloc::{AllocError, Global};
 use std::io::Write;
 use thiserror::Error;
 
-/// Why the arguments of `payload` are refused.
+/// Why the arguments of `payload` or of `encode` are refused.
 #[derive(Clone, Copy, Debug, PartialEq, Eq, Error)]
 pub enum PayloadRefusal {
     /// The shape's text is none from this byte on.
@@ -23,6 +25,9 @@ pub enum PayloadRefusal {
     /// The payload is no hex.
     #[error("bad hex")]
     BadHex,
+    /// The value's text is none of the shape from this byte on.
+    #[error("{}", ValueTextError::BadValue(*.0))]
+    BadValue(usize),
 }
 
 /// Reads the payload by its shape, and writes its value and how many of its bytes that took, or the
@@ -51,7 +56,7 @@ pub fn payload<W: Write>(
 }
 
 /// Why a shape is not read.
-fn refusal_of_shape(error: ShapeTextError) -> Fault<PayloadRefusal>
+pub(crate) fn refusal_of_shape(error: ShapeTextError) -> Fault<PayloadRefusal>
     ensures { result ≡ refusal_of_shape error }
 {
     match error {

@@ -3,12 +3,13 @@
 //! made, which `someipctl show` and `recording` print after the line of the message.
 //!
 //! - [`MessageTypes`]: a types file; its line of the value of a message;
-//! - [`TypesError`]: why a text is no types file;
+//! - [`TypesError`]: why a text is no types file, and where; [`KeyError`]: why a part of it says nothing;
 //! - [`read_types`]: a types file from a reader; [`TypesRefusal`]: that it is refused, and why;
 //! - [`laws`]: what the definitions behind the contracts promise.
 
 mod error;
 mod index;
+mod key_error;
 mod keys;
 pub mod laws;
 mod message_key;
@@ -20,5 +21,6 @@ mod unknown;
 mod value_line;
 
 pub use error::{TypesError, TypesRefusal};
+pub use key_error::KeyError;
 pub use message_types::MessageTypes;
 pub use reading::read_types;

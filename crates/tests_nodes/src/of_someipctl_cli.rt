@@ -17,7 +17,7 @@ use someipctl_run::{ScheduleRefusal, SetupRefusal, read_setup};
 use someipctl_show::BadCaptureLine;
 use someipctl_show::payload::PayloadRefusal;
 use someipctl_show::services::ServicesError;
-use someipctl_show::types::{TypesError, TypesRefusal};
+use someipctl_show::types::{KeyError, TypesError, TypesRefusal};
 use someipctl_show::vectors::BadVectorLine;
 use std::alloc::Global;
 use std::process::Abort;
@@ -103,8 +103,8 @@ fn failures_of_options_have_texts_and_statuses(rt: HostRuntime) {
     assert!(rt; is_told(alloc, services, told, 2));
     let no_memory = Failure::of_services(ServicesError::OutOfMemory, "12", usage);
     assert!(rt; is_told(alloc, no_memory, "out of memory", 3));
-    let clash = refused(Refusal::Types(TypesRefusal(TypesError::Clash("message"))));
-    assert!(rt; is_told(alloc, clash, "types: Clash message", 1));
+    let clash = refused(Refusal::Types(TypesRefusal(TypesError::Message(5, KeyError::Clash))));
+    assert!(rt; is_told(alloc, clash, "types: message 5: Clash message", 1));
     let slots = Failure::BadLimits(LimitsError::BadSlots);
     let told =
         "error: invalid value for '--whole-slots <N>': 1 to 1024\n\nUsage: someipctl recording [OPTIONS] <FILE>";

@@ -1,5 +1,5 @@
 -- The map from keys to tables.
-use Rattle.std.proofs.Common.{◌≡◌, ℕ, ◌+◌, ◌==◌, Bool, true, false, ◌&&◌, List, [], ◌∷◌, ◌++◌, length, map, get_or, append_assoc, length-append, Option, Some, None, option_map, refl, sym, ap, ◌∙◌, subst, Bor, nat_lt, ◌<◌, ◌||◌, cond, drop}
+use Rattle.std.proofs.Common.{◌≡◌, ℕ, ◌+◌, ◌==◌, Bool, true, false, ◌&&◌, List, [], ◌∷◌, ◌++◌, length, get_or, append_assoc, length-append, Option, Some, None, option_map, refl, sym, ap, ◌∙◌, subst, Bor, nat_lt, ◌<◌, ◌≤◌, ◌||◌, cond, take, drop, map, arith, suc}
 use Rattle.std.specs.declared.cmp.Ordering.{Ordering}
 use Rattle.std.specs.declared.cmp.Ordering.TheVariants.{Less, Equal, Greater}
 use Rattle.std.specs.List.{find, list_any, position_from, slice_get}
@@ -10,14 +10,17 @@ use Rattle.std.proofs.lemmas.Option.{slice_get_past, slice_get_read}
 use Rattle.std.specs.Ordering.{nat_cmp, is_eq, ordering_then, eq_by_cmp}
 use Rattle.std.specs.Cmp.{IsTotalOrder, unsigned_tied, nat_cmp_total, eq_by_cmp_equiv}
 use Rattle.std.proofs.lemmas.Cmp.{on_total, then_total}
-use Rattle.std.proofs.lemmas.List.{drop_more}
+use Rattle.std.proofs.lemmas.List.{drop_more, take_more, take_all, take-append-drop, map-append, length-map, length-take-le}
+use Rattle.std.proofs.lemmas.List.Folds.{list_any-append}
 use Rattle.std.specs.BTreeMap as tree
 use Rattle.std.specs.BTreeMap.{BTreeMap}
 use Rattle.someip_wire.specs.declared.header.Header.{Header}
 use Rattle.someipctl_show.specs.declared.types.message_key.MessageKey.{MessageKey}
 use Rattle.someipctl_show.specs.declared.types.typed_message.TypedMessage.{TypedMessage}
+use Rattle.someipctl_show.specs.declared.types.key_error.KeyError.TheVariants.{Clash}
+use Rattle.someipctl_show.specs.types.Faults.{FirstClashes}
 use Rattle.someipctl_show.specs.types.GoodTypes.{same_messages, has_clash}
-use Rattle.someipctl_show.specs.types.Types.{is_for, table_for}
+use Rattle.someipctl_show.specs.types.Types.{TypedMessageValue, TypesValue, is_for, table_for}
 use Rattle.someipctl_show.specs.types.Views.{typed_view, types_view, key_of, header_key, key_cmp, IsIndex}
 
 -- ---- keys
@@ -107,41 +110,48 @@ module _ (places : BTreeMap MessageKey ℕ) (i : ℕ) (ts : List TypedMessage) w
   -- the map has the first place of each key among the tables so far, and no two of these have one key
   pub record IsIndexTo : Type 0 where
     pub placed : (key : MessageKey) → option_or (tree.get key_cmp places key) (position_from (has_key key) i (drop i ts)) ≡ position_from (has_key key) 0 ts
-    pub met : (list_any has_place (drop i ts) || has_clash (types_view (drop i ts))) ≡ has_clash (types_view ts)
+    pub met : (t : TypedMessage) → has_place t ≡ list_any (λ s. same_messages s (typed_view t)) (types_view (take i ts))
+    pub apart : has_clash (types_view (take i ts)) ≡ false
+
+  first_more : (t : TypedMessage) → i < length ts → t ≡ get_or ts i t → types_view (take (i + 1) ts) ≡ types_view (take i ts) ++ typed_view t ∷ []
+  first_more t lt is = ap types_view (take_more ts i t lt) ∙ map-append typed_view (take i ts) (get_or ts i t ∷ []) ∙ ap (λ (x : TypedMessage). types_view (take i ts) ++ typed_view x ∷ []) (sym is)
 
   -- the table that comes next has a key that is there
-  pub met_again : (t : TypedMessage) → i < length ts → t ≡ get_or ts i t → has_place t ≡ true → IsIndexTo → has_clash (types_view ts) ≡ true
+  pub met_again : (t : TypedMessage) → i < length ts → t ≡ get_or ts i t → has_place t ≡ true → IsIndexTo → FirstClashes (types_view ts) (i + 1) Clash
   met_again t lt is found h =
-      let one : (list_any has_place (drop i ts) || has_clash (types_view (drop i ts))) ≡ true = rw (drop_more ts i t lt, sym is, found) refl in
-      sym h.met ∙ one
+      let whole : types_view ts ≡ types_view (take i ts) ++ (typed_view (get_or ts i t) ∷ types_view (drop (i + 1) ts)) =
+      ap types_view (sym (take-append-drop i ts) ∙ ap (λ (rest : List TypedMessage). take i ts ++ rest) (drop_more ts i t lt)) ∙ map-append typed_view (take i ts) (get_or ts i t ∷ drop (i + 1) ts) in
+      let parts : types_view ts ≡ types_view (take i ts) ++ (typed_view t ∷ types_view (drop (i + 1) ts)) = whole ∙ ap (λ (x : TypedMessage). types_view (take i ts) ++ (typed_view x ∷ types_view (drop (i + 1) ts))) (sym is) in
+      let long : length (types_view (take i ts)) ≡ i = length-map (take i ts) typed_view ∙ length-take-le i ts (omega (arith, lt)) in
+      let number : i + 1 ≡ suc (length (types_view (take i ts))) = rw long (omega arith) in
+      (types_view (take i ts), typed_view t, (number, (types_view (drop (i + 1) ts), parts)), sym (h.met t) ∙ found, h.apart)
+
+  pub all_met : length ts ≤ i → IsIndexTo → has_clash (types_view ts) ≡ false
+  all_met le h = subst (λ (us : List TypedMessage). has_clash (types_view us) ≡ false) (take_all i ts le) h.apart
 
 pub empty_index : (places : BTreeMap MessageKey ℕ) (ts : List TypedMessage) → places.entries ≡ [] → IsIndexTo places 0 ts
 empty_index places ts empty = record {
   placed = λ key. rw empty refl;
-  met = rw (none_placed ts) refl;
+  met = λ t. rw empty refl;
+  apart = refl;
 }
+
+-- one more table clashes with one before it, or those before it clash
+clash_more : (types : TypesValue) (t : TypedMessageValue) → has_clash (types ++ t ∷ []) ≡ (list_any (λ s. same_messages s t) types || has_clash types)
+clash_more [] t = refl
+clash_more (s ∷ types) t =
+    rw (list_any-append (same_messages s) types (t ∷ []), clash_more types t)
+    (by (list_any (same_messages s) types) (same_messages s t) (list_any (λ u. same_messages u t) types) (has_clash types))
   where
-    none_placed : (us : List TypedMessage) → list_any (has_place places 0 ts) us ≡ false
-    none_placed [] = refl
-    none_placed (u ∷ us) = rw empty (none_placed us)
+    by : (a b c d : Bool) → ((a || (b || false)) || (c || d)) ≡ ((b || c) || (a || d))
+    by true true c d = refl
+    by true false true d = refl
+    by true false false d = refl
+    by false true c d = refl
+    by false false c d = refl
 
 module _ (places more : BTreeMap MessageKey ℕ) (i : ℕ) (ts : List TypedMessage) (t : TypedMessage)
     (grows : (key : MessageKey) → tree.get key_cmp more key ≡ cond (eq_by_cmp key_cmp (key_of t) key) (Some i) (tree.get key_cmp places key)) where
-  -- the key was not there, and now has the place
-  found_later : (us : List TypedMessage) → list_any (has_place more i ts) us ≡ (list_any (has_place places i ts) us || list_any (same_messages (typed_view t)) (map typed_view us))
-  found_later [] = refl
-  found_later (u ∷ us) =
-      rw (grows (key_of u), same_keys (key_of t) (key_of u), found_later us)
-      (by (same_messages (typed_view t) (typed_view u)) (tree.get key_cmp places (key_of u)) (list_any (has_place places i ts) us) (list_any (same_messages (typed_view t)) (map typed_view us)))
-    where
-      by : (same : Bool) (o : Option ℕ) (c d : Bool) → (is_some (cond same (Some i) o) || (c || d)) ≡ ((is_some o || c) || (same || d))
-      by true None true d = refl
-      by true None false d = refl
-      by true (Some n) c d = refl
-      by false None true d = refl
-      by false None false d = refl
-      by false (Some n) c d = refl
-
   placed_later : (key : MessageKey) (rest : List TypedMessage) (all : Option ℕ) → tree.get key_cmp places (key_of t) ≡ None
       → option_or (tree.get key_cmp places key) (position_from (has_key key) i (t ∷ rest)) ≡ all → option_or (tree.get key_cmp more key) (position_from (has_key key) (i + 1) rest) ≡ all
   placed_later key rest all absent h = by (eq_by_cmp key_cmp (key_of t) key) refl
@@ -157,16 +167,26 @@ module _ (places more : BTreeMap MessageKey ℕ) (i : ℕ) (ts : List TypedMessa
           let there : option_or (tree.get key_cmp places key) (position_from (has_key key) (i + 1) rest) ≡ all = rw has at h in
           rw (grows key, is) there
 
+  -- a key is in the map now where it was, or is that of this table
+  met_later : (u : TypedMessage) (types : TypesValue) → has_place places i ts u ≡ list_any (λ s. same_messages s (typed_view u)) types
+      → has_place more (i + 1) ts u ≡ list_any (λ s. same_messages s (typed_view u)) (types ++ typed_view t ∷ [])
+  met_later u types h =
+      rw (grows (key_of u), same_keys (key_of t) (key_of u), list_any-append (λ s. same_messages s (typed_view u)) types (typed_view t ∷ []), ← h)
+      (by (same_messages (typed_view t) (typed_view u)) (tree.get key_cmp places (key_of u)))
+    where
+      by : (same : Bool) (o : Option ℕ) → is_some (cond same (Some i) o) ≡ (is_some o || (same || false))
+      by true None = refl
+      by true (Some n) = refl
+      by false None = refl
+      by false (Some n) = refl
+
   pub met_first : i < length ts → t ≡ get_or ts i t → tree.get key_cmp places (key_of t) ≡ None → IsIndexTo places i ts → IsIndexTo more (i + 1) ts
   met_first lt is absent h =
       let next : drop i ts ≡ t ∷ drop (i + 1) ts = rw (← is) at (drop_more ts i t lt) in
+      let front : types_view (take (i + 1) ts) ≡ types_view (take i ts) ++ typed_view t ∷ [] = first_more places i ts t lt is in
+      let new : list_any (λ s. same_messages s (typed_view t)) (types_view (take i ts)) ≡ false = sym (h.met t) ∙ ap (λ (o : Option ℕ). is_some o) absent in
       record {
         placed = λ key. placed_later key (drop (i + 1) ts) (position_from (has_key key) 0 ts) absent (rw next at h.placed key);
-        met =
-            let before = rw (next, absent) at h.met in
-            rw (found_later (drop (i + 1) ts)) (regroup (list_any (has_place places i ts) (drop (i + 1) ts)) (list_any (same_messages (typed_view t)) (map typed_view (drop (i + 1) ts))) (has_clash (types_view (drop (i + 1) ts))) ∙ before);
+        met = λ u. rw front (met_later u (types_view (take i ts)) (h.met u));
+        apart = rw (front, clash_more (types_view (take i ts)) (typed_view t), new, h.apart) refl;
       }
-    where
-      regroup : (a b c : Bool) → ((a || b) || c) ≡ (a || (b || c))
-      regroup true b c = refl
-      regroup false b c = refl

@@ -11,7 +11,8 @@ use Rattle.someipctl_show.specs.declared.types.error.TypesError.{TypesError}
 use Rattle.someipctl_show.specs.declared.types.error.TypesError.TheVariants as errors
 use Rattle.someipctl_show.specs.types.GoodTypes.{is_label, has_label, IsGoodTable}
 use Rattle.someipctl_show.specs.types.Keys.{text_at, kind_of_word, checked_label, label_of}
-use Rattle.someipctl_show.specs.types.Says.{SaysTable, SaysEach, HasFault, TextHasFault}
+use Rattle.someipctl_show.specs.types.Faults.{HasFault, TextHasFault}
+use Rattle.someipctl_show.specs.types.Says.{SaysTable, SaysEach}
 use Rattle.someipctl_show.specs.types.Types.{TypedMessageValue, TypesValue}
 
 -- ---- what is read is good
@@ -64,10 +65,6 @@ good_tables (d ∷ ds) (t ∷ types) h = All-cons IsGoodTable t types (good_tabl
 pub text_fault : {A : Type 0} (tree : Option Data) (d : Data) (r : Result A TypesError) → tree ≡ Some d → IfErr r (HasFault d) → IfErr r (TextHasFault tree)
 text_fault tree d (Ok x) is h = tt
 text_fault tree d (Err errors.NotToml) is h = absurd h
-text_fault tree d (Err (errors.Missing k)) is h = rw is h
-text_fault tree d (Err (errors.WrongKind k)) is h = rw is h
-text_fault tree d (Err (errors.OutOfRange k)) is h = rw is h
-text_fault tree d (Err (errors.UnknownKey k)) is h = rw is h
-text_fault tree d (Err (errors.BadShape k)) is h = rw is h
-text_fault tree d (Err (errors.Clash k)) is h = rw is h
+text_fault tree d (Err (errors.File e)) is h = rw is h
+text_fault tree d (Err (errors.Message n e)) is h = rw is h
 text_fault tree d (Err errors.OutOfMemory) is h = tt

@@ -1,7 +1,7 @@
 -- What tables say, read one after the other.
-use Rattle.std.proofs.Common.{◌≡◌, ◌≢◌, ℕ, ◌+◌, ◌<◌, ◌≤◌, Bool, true, false, cond, ltb, List, [], ◌∷◌, ◌++◌, length, map, get_or, take, drop, append_assoc, append-nil, Option, Some, None, Result, Ok, Err, refl, sym, ap, ◌∙◌, subst, arith, codes, IfOk, IfErr}
+use Rattle.std.proofs.Common.{◌≡◌, ◌≢◌, ℕ, suc, ◌+◌, ◌<◌, ◌≤◌, Bool, true, false, cond, ltb, List, [], ◌∷◌, ◌++◌, length, map, get_or, take, drop, append_assoc, append-nil, Option, Some, None, Result, Ok, Err, refl, sym, ap, ◌∙◌, subst, arith, codes, IfOk, IfErr}
 use Rattle.std.proofs.lemmas.Bool.{ltb-false}
-use Rattle.std.proofs.lemmas.List.{drop_all, drop_more, take-append-drop, map-append}
+use Rattle.std.proofs.lemmas.List.{drop_all, drop_more, take_more, take-append-drop, map-append, length-map, length-take-le}
 use Rattle.toml.specs.Data.{Data}
 use Rattle.toml.specs.View.{view, items_of}
 use Rattle.toml.specs.declared.value.Value.{Value}
@@ -9,15 +9,16 @@ use Rattle.someip_payload_values.specs.declared.error.PayloadError.{PayloadError
 use Rattle.someip_payload_values.specs.declared.error.PayloadError.TheVariants.{TooDeep, BadShape}
 use Rattle.someip_payload_values.specs.Check.{checked, depth, is_form}
 use Rattle.someip_payload_values.specs.Data.{Form}
-use Rattle.someipctl_show.specs.declared.types.error.TypesError.{TypesError}
-use Rattle.someipctl_show.specs.declared.types.error.TypesError.TheVariants as errors
+use Rattle.someipctl_show.specs.declared.types.key_error.KeyError.{KeyError}
+use Rattle.someipctl_show.specs.declared.types.key_error.KeyError.TheVariants as errors
 use Rattle.someip_wire.specs.declared.header.MessageType.{MessageType}
 use Rattle.someip_payload_values.specs.declared.shape.Shape.{Shape}
 use Rattle.someip_payload_values.specs.View.{form}
 use Rattle.someip_payload.specs.ShapeText.{IsTextOf}
-use Rattle.someipctl_show.specs.types.Keys.{TellsAt, IsAsSaid, id_at, kind_at, label_at}
-use Rattle.someipctl_show.specs.types.Says.{IsShapeText, SaysForm, NoForm, SaysTable, SaysEach, SaysTables, SaysTypes, IsReadUnlessMemory, FailsAt, no_service, no_method, no_type, no_shape, no_name, OneFailsAt, TreeFailsAt, no_tables, in_tables, HasFault}
-use Rattle.someipctl_show.specs.types.Tables.{elements, message_tables}
+use Rattle.someipctl_show.specs.types.Faults.{NoForm, FailsAt, no_shape, FirstFails, TellsTable, in_message}
+use Rattle.someipctl_show.specs.types.Keys.{FailsBy, TellsAt, IsAsSaid, IsOnly, id_at, kind_at, label_at}
+use Rattle.someipctl_show.specs.types.Says.{IsShapeText, SaysForm, SaysTable, SaysEach}
+use Rattle.someipctl_show.specs.types.Tables.{elements}
 use Rattle.someipctl_show.specs.types.Types.{TypedMessageValue, TypesValue}
 
 -- the elements of an array
@@ -39,15 +40,25 @@ shallow f h = by (ltb 16 (depth f)) refl h
 -- ---- errors
 
 -- an error that tells of one fact tells also of another, which follows from it
-pub tells_too : {P Q : List ℕ → Type 0} (e : TypesError) → ((key : List ℕ) → P key → Q key) → TellsAt P e → TellsAt Q e
+by_too : {P Q : List ℕ → Type 0} (e : KeyError) → ((key : List ℕ) → P key → Q key) → FailsBy P e → FailsBy Q e
+by_too errors.OutOfMemory then h = absurd h
+by_too (errors.Missing k) then h = then k.now h
+by_too (errors.WrongKind k) then h = then k.now h
+by_too (errors.OutOfRange k) then h = then k.now h
+by_too (errors.BadText place) then h = then (codes "shape") h
+by_too errors.BadShape then h = then (codes "shape") h
+by_too (errors.UnknownKey k) then h = absurd h
+by_too errors.Clash then h = absurd h
+
+pub tells_too : {P Q : List ℕ → Type 0} (e : KeyError) → ((key : List ℕ) → P key → Q key) → TellsAt P e → TellsAt Q e
 tells_too errors.OutOfMemory then h = tt
-tells_too errors.NotToml then h = absurd h
-tells_too (errors.Missing k) then h = then k.now h
-tells_too (errors.WrongKind k) then h = then k.now h
-tells_too (errors.OutOfRange k) then h = then k.now h
+tells_too {P} {Q} (errors.Missing k) then h = by_too {P = P} {Q = Q} (errors.Missing k) then h
+tells_too {P} {Q} (errors.WrongKind k) then h = by_too {P = P} {Q = Q} (errors.WrongKind k) then h
+tells_too {P} {Q} (errors.OutOfRange k) then h = by_too {P = P} {Q = Q} (errors.OutOfRange k) then h
+tells_too {P} {Q} (errors.BadText place) then h = by_too {P = P} {Q = Q} (errors.BadText place) then h
+tells_too {P} {Q} errors.BadShape then h = by_too {P = P} {Q = Q} errors.BadShape then h
 tells_too (errors.UnknownKey k) then h = absurd h
-tells_too (errors.BadShape k) then h = (then k.now h.0, h.1)
-tells_too (errors.Clash k) then h = absurd h
+tells_too errors.Clash then h = absurd h
 
 -- ---- tables
 
@@ -78,27 +89,55 @@ all_read front all h = (subst (SaysEach all) (append-nil front) (h.back [] tt), 
     by types [] is none = is ∙ append-nil front
     by types (t ∷ more) is never = absurd never
 
-module _ (front : TypesValue) (i : ℕ) (values : List Value) where
-  abbrev pub HasReadTo : Type 0
-  HasReadTo = HasRead front (map view (drop i values)) (map view values)
+one_said : (ds : List Data) (types : TypesValue) (d : Data) (t : TypedMessageValue) → SaysEach ds types → SaysTable d t → SaysEach (ds ++ d ∷ []) (types ++ t ∷ [])
+one_said [] [] d t each says = (says, tt)
+one_said [] (u ∷ types) d t each says = absurd each
+one_said (e ∷ ds) [] d t each says = absurd each
+one_said (e ∷ ds) (u ∷ types) d t each says = (each.0, one_said ds types d t each.1 says)
 
+-- what was read of the first tables is what they say, and it goes on to what all say
+pub record HasReadTo (front : TypesValue) (i : ℕ) (values : List Value) : Type 0 where
+  pub said : SaysEach (map view (take i values)) front
+  pub read : HasRead front (map view (drop i values)) (map view values)
+
+module _ (front : TypesValue) (i : ℕ) (values : List Value) where
   rest_at : (d : Value) → i < length values → map view (drop i values) ≡ view (get_or values i d) ∷ map view (drop (i + 1) values)
   rest_at d lt = ap (map view) (drop_more values i d lt)
 
-  pub after_one : (d : Value) (t : TypedMessageValue) → i < length values → SaysTable (view (get_or values i d)) t × ((other : TypedMessageValue) → SaysTable (view (get_or values i d)) other → other ≡ t)
-      → HasReadTo → HasRead (front ++ t ∷ []) (map view (drop (i + 1) values)) (map view values)
-  after_one d t lt said h =
-      one_read front (view (get_or values i d)) (map view (drop (i + 1) values)) (map view values) t said.0 said.1
-      (subst (λ (rest : List Data). HasRead front rest (map view values)) (rest_at d lt) h)
+  first_more : (d : Value) → i < length values → map view (take (i + 1) values) ≡ map view (take i values) ++ view (get_or values i d) ∷ []
+  first_more d lt = ap (map view) (take_more values i d lt) ∙ map-append view (take i values) (get_or values i d ∷ [])
 
-  pub at_fault : (d : Value) (e : TypesError) → i < length values → TellsAt (FailsAt (view (get_or values i d))) e → TellsAt (OneFailsAt (map view values)) e
-  at_fault d e lt tells =
+  pub after_one : (d : Value) (t : TypedMessageValue) → i < length values → IsOnly (SaysTable (view (get_or values i d))) t → HasReadTo front i values → HasReadTo (front ++ t ∷ []) (i + 1) values
+  after_one d t lt said h = record {
+    said = rw (first_more d lt) (one_said (map view (take i values)) front (view (get_or values i d)) t h.said said.0);
+    read =
+        one_read front (view (get_or values i d)) (map view (drop (i + 1) values)) (map view values) t said.0 said.1
+        (subst (λ (rest : List Data). HasRead front rest (map view values)) (rest_at d lt) h.read);
+  }
+
+  first_fails : (d : Value) (e : KeyError) → i < length values → HasReadTo front i values → FailsBy (FailsAt (view (get_or values i d))) e → FirstFails (map view values) (i + 1) e
+  first_fails d e lt h fails =
       let parts : map view values ≡ map view (take i values) ++ (view (get_or values i d) ∷ map view (drop (i + 1) values)) =
       ap (map view) (sym (take-append-drop i values) ∙ ap (λ (rest : List Value). take i values ++ rest) (drop_more values i d lt)) ∙ map-append view (take i values) (get_or values i d ∷ drop (i + 1) values) in
-      tells_too {P = FailsAt (view (get_or values i d))} {Q = OneFailsAt (map view values)} e (λ key fails. (map view (take i values), map view (drop (i + 1) values), view (get_or values i d), parts, fails)) tells
+      let long : length (map view (take i values)) ≡ i = length-map (take i values) view ∙ length-take-le i values (omega (arith, lt)) in
+      let number : i + 1 ≡ suc (length (map view (take i values))) = rw long (omega arith) in
+      (map view (take i values), view (get_or values i d), (number, (map view (drop (i + 1) values), parts)), (front, h.said), fails)
 
-  pub at_end : length values ≤ i → HasReadTo → SaysEach (map view values) front × ((types : TypesValue) → SaysEach (map view values) types → types ≡ front)
-  at_end le h = all_read front (map view values) (subst (λ (rest : List Value). HasRead front (map view rest) (map view values)) (drop_all i values le) h)
+  pub at_fault : (d : Value) (e : KeyError) → i < length values → HasReadTo front i values → TellsAt (FailsAt (view (get_or values i d))) e → TellsTable (FirstFails (map view values)) (in_message (i + 1) e)
+  at_fault d errors.OutOfMemory lt h tells = tt
+  at_fault d (errors.Missing k) lt h tells = first_fails d (errors.Missing k) lt h tells
+  at_fault d (errors.WrongKind k) lt h tells = first_fails d (errors.WrongKind k) lt h tells
+  at_fault d (errors.OutOfRange k) lt h tells = first_fails d (errors.OutOfRange k) lt h tells
+  at_fault d (errors.BadText place) lt h tells = first_fails d (errors.BadText place) lt h tells
+  at_fault d errors.BadShape lt h tells = first_fails d errors.BadShape lt h tells
+  at_fault d (errors.UnknownKey k) lt h tells = absurd tells
+  at_fault d errors.Clash lt h tells = absurd tells
+
+  pub at_end : length values ≤ i → HasReadTo front i values → IsOnly (SaysEach (map view values)) front
+  at_end le h = all_read front (map view values) (subst (λ (rest : List Value). HasRead front (map view rest) (map view values)) (drop_all i values le) h.read)
+
+pub at_first : (values : List Value) → HasReadTo [] 0 values
+at_first values = record { said = tt; read = at_start (map view values) }
 
 -- ---- the values of a table
 
@@ -127,7 +166,7 @@ table_said d t service method kind form name = (
 -- ---- the shape of a text
 
 -- a shape that has the text, and was accepted or refused
-pub accepted_said : (text : List ℕ) (shape : Shape) (r : Result Shape TypesError) → IsTextOf (form shape) text → ((f : Form) → IsTextOf f text → depth f ≤ 64 → form shape ≡ f)
+pub accepted_said : (text : List ℕ) (shape : Shape) (r : Result Shape KeyError) → IsTextOf (form shape) text → ((f : Form) → IsTextOf f text → depth f ≤ 64 → form shape ≡ f)
     → IfOk r (λ s. (s ≡ shape) × (checked (form shape) ≡ Ok tt)) → IfErr r (TellsAt (λ k. (k ≡ codes "shape") × (checked (form shape) ≢ Ok tt))) → IsAsSaid form r (IsShapeText text) (NoForm (IsShapeText text))
 accepted_said text shape (Ok s) named only ok err =
     subst (λ (x : Shape). IsShapeText text (form x) × ((f : Form) → IsShapeText text f → f ≡ form x)) (sym ok.0) ((named, ok.1), λ f h. sym (only f h.0 (shallow f h.1)))
@@ -138,58 +177,8 @@ accepted_said text shape (Err e) named only ok err =
 -- ---- the faults of a table
 
 -- where nothing is found at a key, the table fails at it
-pub fails_by : {A : Type 0} (d : Data) (key : List ℕ) (found : Option A) (e : TypesError) → (found ≡ None → FailsAt d key) → TellsAt (λ k. (k ≡ key) × (found ≡ None)) e → TellsAt (FailsAt d) e
+pub fails_by : {A : Type 0} (d : Data) (key : List ℕ) (found : Option A) (e : KeyError) → (found ≡ None → FailsAt d key) → TellsAt (λ k. (k ≡ key) × (found ≡ None)) e → TellsAt (FailsAt d) e
 fails_by d key found e fails tells = tells_too {P = λ k. (k ≡ key) × (found ≡ None)} {Q = FailsAt d} e (λ k h. subst (FailsAt d) (sym h.0) (fails h.1)) tells
 
-pub form_fails : (d : Data) (e : TypesError) → TellsAt (NoForm (SaysForm d)) e → TellsAt (FailsAt d) e
+pub form_fails : (d : Data) (e : KeyError) → TellsAt (NoForm (SaysForm d)) e → TellsAt (FailsAt d) e
 form_fails d e tells = tells_too {P = NoForm (SaysForm d)} {Q = FailsAt d} e (λ k h. subst (FailsAt d) (sym h.0) (no_shape h.1)) tells
-
--- a table that fails says nothing, and then its list doesn't either
-fails_none : (d : Data) (key : List ℕ) → FailsAt d key → (t : TypedMessageValue) → SaysTable d t → ⊥
-fails_none d _ (no_service none) t h = let e = sym h.service ∙ none in absurd cc
-fails_none d _ (no_method none) t h = let e = sym h.method ∙ none in absurd cc
-fails_none d _ (no_type none) t h = let e = sym h.kind ∙ none in absurd cc
-fails_none d _ (no_shape none) t h = none t.form h.form
-fails_none d _ (no_name none) t h = let e = sym h.name ∙ none in absurd cc
-
-inside_none : (front rest : List Data) (d : Data) → ((t : TypedMessageValue) → SaysTable d t → ⊥) → (types : TypesValue) → SaysEach (front ++ d ∷ rest) types → ⊥
-inside_none [] rest d none [] h = h
-inside_none [] rest d none (t ∷ types) h = none t h.0
-inside_none (x ∷ front) rest d none [] h = h
-inside_none (x ∷ front) rest d none (t ∷ types) h = inside_none front rest d none types h.1
-
-pub tree_fails_none : (tree : Data) (key : List ℕ) → TreeFailsAt tree key → (types : TypesValue) → SaysTables tree types → ⊥
-tree_fails_none tree _ (no_tables none) types (ds, is, each) = let e = sym is ∙ none in absurd cc
-tree_fails_none tree _ (in_tables ds key is (front, rest, d, parts, fails)) types (es, same, each) =
-    let e = sym same ∙ is in
-    let same_list : es ≡ ds = cc in
-    inside_none front rest d (fails_none d key fails) types (subst (λ (x : List Data). SaysEach x types) (same_list ∙ parts) each)
-
--- ---- the faults of a tree
-
-pub tree_fault : (tree : Data) (e : TypesError) → TellsAt (TreeFailsAt tree) e → HasFault tree e
-tree_fault tree errors.OutOfMemory h = tt
-tree_fault tree errors.NotToml h = absurd h
-tree_fault tree (errors.Missing k) h = h
-tree_fault tree (errors.WrongKind k) h = h
-tree_fault tree (errors.OutOfRange k) h = h
-tree_fault tree (errors.UnknownKey k) h = absurd h
-tree_fault tree (errors.BadShape k) h = h
-tree_fault tree (errors.Clash k) h = absurd h
-
-pub listed_tells : (tree : Data) (e : TypesError) → TellsAt (λ k. (k ≡ codes "message") × (message_tables tree ≡ None)) e → TellsAt (TreeFailsAt tree) e
-listed_tells tree e tells =
-    tells_too {P = λ k. (k ≡ codes "message") × (message_tables tree ≡ None)} {Q = TreeFailsAt tree} e (λ k h. subst (TreeFailsAt tree) (sym h.0) (no_tables h.1)) tells
-
-pub tables_tell : (tree : Data) (ds : List Data) (e : TypesError) → message_tables tree ≡ Some ds → TellsAt (OneFailsAt ds) e → TellsAt (TreeFailsAt tree) e
-tables_tell tree ds e is tells = tells_too {P = OneFailsAt ds} {Q = TreeFailsAt tree} e (λ k h. in_tables ds k is h) tells
-
-pub tells_none : (tree : Data) (e : TypesError) (types : TypesValue) → TellsAt (TreeFailsAt tree) e → SaysTypes tree types → IsReadUnlessMemory types (Err e)
-tells_none tree errors.OutOfMemory types h said = tt
-tells_none tree errors.NotToml types h said = absurd h
-tells_none tree (errors.Missing k) types h said = tree_fails_none tree k.now h types said.tables
-tells_none tree (errors.WrongKind k) types h said = tree_fails_none tree k.now h types said.tables
-tells_none tree (errors.OutOfRange k) types h said = tree_fails_none tree k.now h types said.tables
-tells_none tree (errors.UnknownKey k) types h said = absurd h
-tells_none tree (errors.BadShape k) types h said = tree_fails_none tree k.now h.0 types said.tables
-tells_none tree (errors.Clash k) types h said = absurd h

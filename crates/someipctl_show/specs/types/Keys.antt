@@ -4,8 +4,8 @@ use Rattle.std.specs.Option.{option_and_then}
 use Rattle.toml.specs.Data.{Data, get, as_integer, as_str}
 use Rattle.someip_wire.specs.declared.header.MessageType.{MessageType}
 use Rattle.someip_wire.specs.declared.header.MessageType.TheVariants.{Request, RequestNoReturn, Notification, Response, Error}
-use Rattle.someipctl_show.specs.declared.types.error.TypesError.{TypesError}
-use Rattle.someipctl_show.specs.declared.types.error.TypesError.TheVariants.{Missing, WrongKind, OutOfRange, BadShape, OutOfMemory}
+use Rattle.someipctl_show.specs.declared.types.key_error.KeyError.{KeyError}
+use Rattle.someipctl_show.specs.declared.types.key_error.KeyError.TheVariants.{Missing, WrongKind, OutOfRange, BadText, BadShape, OutOfMemory}
 use Rattle.someipctl_show.specs.types.GoodTypes.{is_label}
 
 -- what is asked of what was found, if anything was
@@ -13,23 +13,32 @@ infixl 10 ◌>>=◌
 abbrev pub ◌>>=◌ : {A B : Type 0} → Option A → (A → Option B) → Option B
 o >>= f = option_and_then f o
 
--- an error, but for memory, tells of a key at which this holds; that of a bad shape is `shape`
-abbrev pub TellsAt : (List ℕ → Type 0) → TypesError → Type 0
+-- an error tells of a key at which this holds; a bad text and a bad shape tell of `shape`
+abbrev pub FailsBy : (List ℕ → Type 0) → KeyError → Type 0
+FailsBy Fails (Missing key) = Fails key.now
+FailsBy Fails (WrongKind key) = Fails key.now
+FailsBy Fails (OutOfRange key) = Fails key.now
+FailsBy Fails (BadText place) = Fails (codes "shape")
+FailsBy Fails BadShape = Fails (codes "shape")
+FailsBy Fails error = ⊥
+
+-- so it does, or memory ran out
+abbrev pub TellsAt : (List ℕ → Type 0) → KeyError → Type 0
 TellsAt Fails OutOfMemory = Unit {0}
-TellsAt Fails (Missing key) = Fails key.now
-TellsAt Fails (WrongKind key) = Fails key.now
-TellsAt Fails (OutOfRange key) = Fails key.now
-TellsAt Fails (BadShape key) = Fails key.now × (key.now ≡ codes "shape")
-TellsAt Fails error = ⊥
+TellsAt Fails error = FailsBy Fails error
 
 -- what is read at a key is what is found there, and an error comes only where nothing is, and tells of the key
-abbrev pub IsAsFound : {X Y : Type 0} → (X → Y) → Result X TypesError → List ℕ → Option Y → Type 0
+abbrev pub IsAsFound : {X Y : Type 0} → (X → Y) → Result X KeyError → List ℕ → Option Y → Type 0
 IsAsFound view (Ok x) key found = found ≡ Some (view x)
 IsAsFound view (Err e) key found = TellsAt (λ k. (k ≡ key) × (found ≡ None)) e
 
+-- this is said, and nothing else is
+abbrev pub IsOnly : {Y : Type 0} → (Y → Type 0) → Y → Type 0
+IsOnly Says y = Says y × ((other : _) → Says other → other ≡ y)
+
 -- what is read is said, and nothing else is; an error tells of a key at which something fails
-abbrev pub IsAsSaid : {X Y : Type 0} → (X → Y) → Result X TypesError → (Y → Type 0) → (List ℕ → Type 0) → Type 0
-IsAsSaid view (Ok x) Says Fails = Says (view x) × ((y : _) → Says y → y ≡ view x)
+abbrev pub IsAsSaid : {X Y : Type 0} → (X → Y) → Result X KeyError → (Y → Type 0) → (List ℕ → Type 0) → Type 0
+IsAsSaid view (Ok x) Says Fails = IsOnly Says (view x)
 IsAsSaid view (Err e) Says Fails = TellsAt Fails e
 
 -- ---- numbers and texts

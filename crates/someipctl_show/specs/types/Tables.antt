@@ -1,6 +1,6 @@
 -- The tables of a types file.
 use Rattle.std.specs.Prelude.{ℕ, Bool, not, ◌||◌, if◌then◌else◌, codes, bytes_eq, is_some, List, [], ◌∷◌, Option, Some, None}
-use Rattle.std.specs.List.{list_all, list_any}
+use Rattle.std.specs.List.{list_all, list_any, position_from}
 use Rattle.std.specs.Option.{option_map}
 use Rattle.toml.specs.Data.{Data, Items, no_items, item, Members, no_members, member, get, as_array, as_table}
 use Rattle.someipctl_show.specs.types.Keys.{◌>>=◌}
@@ -55,6 +55,14 @@ is_unknown known key = not (list_any (bytes_eq key) known)
 
 abbrev pub has_unknown : List (List ℕ) → Data → Bool
 has_unknown known d = list_any (is_unknown known) (keys_in (as_table d))
+
+-- a table has a key
+abbrev pub has_key : List ℕ → Data → Bool
+has_key key d = is_some (get key d)
+
+-- the number of the first table that has a key, counted from 1
+abbrev pub number_of : List ℕ → List Data → Option ℕ
+number_of key ds = position_from (has_key key) 1 ds
 
 abbrev pub or_empty : Option (List Data) → List Data
 or_empty None = []

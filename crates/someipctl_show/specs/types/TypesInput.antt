@@ -7,7 +7,8 @@ use Rattle.someipctl_io.specs.declared.fault.Fault.TheVariants.{Refused, CannotR
 use Rattle.someipctl_show.specs.declared.types.error.TypesError.{TypesError}
 use Rattle.someipctl_show.specs.declared.types.error.TypesError.TheVariants as errors
 use Rattle.someipctl_show.specs.declared.types.error.TypesRefusal.{TypesRefusal}
-use Rattle.someipctl_show.specs.types.Says.{TextSays, TextHasFault, tree_of}
+use Rattle.someipctl_show.specs.types.Faults.{TextHasFault}
+use Rattle.someipctl_show.specs.types.Says.{TextSays, tree_of}
 use Rattle.someipctl_show.specs.types.Types.{TypesValue}
 
 -- bytes say these types: they are a text in UTF-8 that does

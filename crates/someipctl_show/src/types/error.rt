@@ -2,33 +2,22 @@
 ghost use Rattle.std.specs.Prelude.{◌≡◌};
 ghost use Rattle.someipctl_show.specs.declared.types.error.TypesError.TheVariants.{OutOfMemory};
 
+use crate::types::key_error::KeyError;
 use std::alloc::{AllocError, AllocFailed};
 use thiserror::Error;
 
-/// Why a text is no types file. A key is named by its last part.
+/// Why a text is no types file, and where.
 #[derive(Debug, Drop, Error)]
 pub enum TypesError {
     /// The text is no TOML.
     #[error("NotToml -")]
     NotToml,
-    /// A key is needed and is not there.
-    #[error("Missing {0}")]
-    Missing(&'static str),
-    /// The value at a key is of another kind.
-    #[error("WrongKind {0}")]
-    WrongKind(&'static str),
-    /// The value at a key is outside its range.
-    #[error("OutOfRange {0}")]
-    OutOfRange(&'static str),
-    /// A key that the format does not have.
-    #[error("UnknownKey {0}")]
-    UnknownKey(String),
-    /// The text at a key is that of no shape, or payloads cannot have the shape.
-    #[error("BadShape {0}")]
-    BadShape(&'static str),
-    /// Two of the tables at a key name the same messages.
-    #[error("Clash {0}")]
-    Clash(&'static str),
+    /// The file itself says nothing.
+    #[error("{0}")]
+    File(KeyError),
+    /// The table with this number in `message`, counted from 1, says nothing.
+    #[error("message {0}: {1}")]
+    Message(usize, KeyError),
     /// Memory ran out.
     #[error("out of memory")]
     OutOfMemory,

@@ -7,57 +7,58 @@ ghost use Rattle.someip_payload_values.specs.Check.{checked};
 ghost use Rattle.someip_payload_values.specs.View.{form};
 ghost use Rattle.someipctl_show.specs.types.GoodTypes.{is_label, is_visible};
 ghost use Rattle.someipctl_show.specs.types.Keys.{IsAsFound, IsAsSaid, TellsAt, id_at, id_of, text_at, kind_at, kind_of_word, label_at};
-ghost use Rattle.someipctl_show.specs.types.Says.{IsShapeText, SaysForm, NoForm};
+ghost use Rattle.someipctl_show.specs.types.Faults.{NoForm};
+ghost use Rattle.someipctl_show.specs.types.Says.{IsShapeText, SaysForm};
 
-use crate::types::error::TypesError;
+use crate::types::key_error::KeyError;
 use someip_payload::{PayloadError, Shape, ShapeTextError, check_shape, read_shape};
 use someip_wire::MessageType;
 use std::alloc::Global;
 use toml::Value;
 
 /// The ID at a key, from 0 to FFFF.
-pub(crate) fn id_at(table: &Value, key: &'static str) -> Result<u16, TypesError>
+pub(crate) fn id_at(table: &Value, key: &'static str) -> Result<u16, KeyError>
     ensures { IsAsFound (λ n. n) result key.now (id_at key.now (view table.now)) }
 {
     let Some(value) = table.get(key) else {
-        return Err(TypesError::Missing(key));
+        return Err(KeyError::Missing(key));
     };
     let Some(number) = value.as_integer() else {
-        return Err(TypesError::WrongKind(key));
+        return Err(KeyError::WrongKind(key));
     };
     id_of(key, number)
 }
 
 /// A number of 16 bits.
-fn id_of(key: &'static str, number: i64) -> Result<u16, TypesError>
+fn id_of(key: &'static str, number: i64) -> Result<u16, KeyError>
     ensures { IsAsFound (λ n. n) result key.now (id_of number) }
 {
     match u16::try_from(number) {
         Ok(id) => Ok(id),
-        Err(_) => Err(TypesError::OutOfRange(key)),
+        Err(_) => Err(KeyError::OutOfRange(key)),
     }
 }
 
 /// The text at a key.
-fn text_at<'a>(table: &'a Value, key: &'static str) -> Result<&'a str, TypesError>
+fn text_at<'a>(table: &'a Value, key: &'static str) -> Result<&'a str, KeyError>
     ensures { IsAsFound (λ text. text.now) result key.now (text_at key.now (view table.now)) }
 {
     let Some(value) = table.get(key) else {
-        return Err(TypesError::Missing(key));
+        return Err(KeyError::Missing(key));
     };
     match value.as_str() {
         Some(text) => Ok(text),
-        None => Err(TypesError::WrongKind(key)),
+        None => Err(KeyError::WrongKind(key)),
     }
 }
 
 /// The type at the key `type`.
-pub(crate) fn kind_at(table: &Value) -> Result<MessageType, TypesError>
+pub(crate) fn kind_at(table: &Value) -> Result<MessageType, KeyError>
     ensures { IsAsFound (λ kind. kind) result (codes "type") (kind_at (view table.now)) }
 {
     match kind_of_word(text_at(table, "type")?) {
         Some(kind) => Ok(kind),
-        None => Err(TypesError::OutOfRange("type")),
+        None => Err(KeyError::OutOfRange("type")),
     }
 }
 
@@ -76,25 +77,25 @@ fn kind_of_word(word: &str) -> Option<MessageType>
 }
 
 /// The shape whose text stands at the key `shape`.
-pub(crate) fn shape_at(alloc: Global, table: &Value) -> Result<Shape, TypesError>
+pub(crate) fn shape_at(alloc: Global, table: &Value) -> Result<Shape, KeyError>
     ensures { IsAsSaid form result (SaysForm (view table.now)) (NoForm (SaysForm (view table.now))) }
 {
     shape_of(alloc, text_at(table, "shape")?)
 }
 
 /// The shape of a text, if payloads can have it.
-fn shape_of(alloc: Global, text: &str) -> Result<Shape, TypesError>
+fn shape_of(alloc: Global, text: &str) -> Result<Shape, KeyError>
     ensures { IsAsSaid form result (IsShapeText text.now) (NoForm (IsShapeText text.now)) }
 {
     match read_shape(alloc, text) {
         Ok(shape) => accepted(alloc, shape),
-        Err(ShapeTextError::BadShape(_)) => Err(TypesError::BadShape("shape")),
-        Err(ShapeTextError::OutOfMemory) => Err(TypesError::OutOfMemory),
+        Err(ShapeTextError::BadShape(place)) => Err(KeyError::BadText(place)),
+        Err(ShapeTextError::OutOfMemory) => Err(KeyError::OutOfMemory),
     }
 }
 
 /// A shape, if payloads can have it.
-fn accepted(alloc: Global, shape: Shape) -> Result<Shape, TypesError>
+fn accepted(alloc: Global, shape: Shape) -> Result<Shape, KeyError>
     ensures ok { IfOk result (λ s. (s ≡ shape) × (checked (form shape) ≡ Ok tt)) }
     ensures err { IfErr result (TellsAt (λ k. (k ≡ codes "shape") × (checked (form shape) ≢ Ok tt))) }
 {
@@ -103,19 +104,19 @@ fn accepted(alloc: Global, shape: Shape) -> Result<Shape, TypesError>
 }
 
 /// Refuses a shape that payloads cannot have.
-fn refuse_shape(alloc: Global, shape: &Shape) -> Result<(), TypesError>
+fn refuse_shape(alloc: Global, shape: &Shape) -> Result<(), KeyError>
     ensures ok { OnOk result (checked (form shape.now) ≡ Ok tt) }
     ensures err { IfErr result (TellsAt (λ k. (k ≡ codes "shape") × (checked (form shape.now) ≢ Ok tt))) }
 {
     match check_shape(alloc, shape) {
         Ok(()) => Ok(()),
-        Err(PayloadError::OutOfMemory) => Err(TypesError::OutOfMemory),
-        Err(_) => Err(TypesError::BadShape("shape")),
+        Err(PayloadError::OutOfMemory) => Err(KeyError::OutOfMemory),
+        Err(_) => Err(KeyError::BadShape),
     }
 }
 
 /// The name at the key `name`, if it has one.
-pub(crate) fn label_at(alloc: Global, table: &Value) -> Result<Option<String>, TypesError>
+pub(crate) fn label_at(alloc: Global, table: &Value) -> Result<Option<String>, KeyError>
     ensures { IsAsFound (λ name. option_map string_bytes name) result (codes "name")
         (label_at (view table.now)) }
 {
@@ -123,10 +124,10 @@ pub(crate) fn label_at(alloc: Global, table: &Value) -> Result<Option<String>, T
         return Ok(None);
     };
     let Some(text) = value.as_str() else {
-        return Err(TypesError::WrongKind("name"));
+        return Err(KeyError::WrongKind("name"));
     };
     if !is_label(text) {
-        return Err(TypesError::OutOfRange("name"));
+        return Err(KeyError::OutOfRange("name"));
     }
     Ok(Some(String::from_str(alloc, text)?))
 }

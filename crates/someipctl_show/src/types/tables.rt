@@ -1,15 +1,17 @@
 //! The tables of a types file.
 //!
 //! What clashes is told last, after unknown keys: two tables are compared once each of them is good.
-ghost use Rattle.std.specs.Prelude.{◌≡◌, map, option_map, codes};
+ghost use Rattle.std.specs.Prelude.{◌≡◌, Some, None, map, option_map, IfOk, IfErr, OnErr};
 ghost use Rattle.std.specs.List.{list_all};
 ghost use Rattle.toml.specs.View.{view};
-ghost use Rattle.someipctl_show.specs.types.Keys.{IsAsFound, IsAsSaid};
-ghost use Rattle.someipctl_show.specs.types.Says.{SaysEach, SaysTable, FailsAt, OneFailsAt};
+ghost use Rattle.someipctl_show.specs.types.Faults.{FailsAt, FirstFails, HasFault, TellsTable, in_message};
+ghost use Rattle.someipctl_show.specs.types.Keys.{IsAsSaid, IsOnly};
+ghost use Rattle.someipctl_show.specs.types.Says.{SaysEach, SaysTable};
 ghost use Rattle.someipctl_show.specs.types.Tables.{as_list, is_table, message_tables};
 ghost use Rattle.someipctl_show.specs.types.Views.{typed_view, types_view};
 
 use crate::types::error::TypesError;
+use crate::types::key_error::KeyError;
 use crate::types::keys::{id_at, kind_at, label_at, shape_at};
 use crate::types::typed_message::TypedMessage;
 use std::alloc::Global;
@@ -17,18 +19,16 @@ use toml::Value;
 
 /// The tables at the key `message`, or none.
 pub(crate) fn message_tables(tree: &Value) -> Result<&[Value], TypesError>
-    ensures { IsAsFound (λ s. map view s.now) result (codes "message") (message_tables (view tree.now)) }
+    ensures ok { IfOk result (λ list. message_tables (view tree.now) ≡ Some (map view list.now)) }
+    ensures none { OnErr result (message_tables (view tree.now) ≡ None) }
+    ensures err { IfErr result (HasFault (view tree.now)) }
 {
     let Some(value) = tree.get("message") else {
         return Ok(&[]);
     };
-    let Some(list) = elements(value) else {
-        return Err(TypesError::WrongKind("message"));
-    };
-    if are_tables(list) {
-        Ok(list)
-    } else {
-        Err(TypesError::WrongKind("message"))
+    match elements(value) {
+        Some(list) if are_tables(list) => Ok(list),
+        _ => Err(TypesError::File(KeyError::WrongKind("message"))),
     }
 }
 
@@ -61,18 +61,31 @@ pub(crate) fn typed_messages(
     alloc: Global,
     tables: &[Value],
 ) -> Result<Vec<TypedMessage>, TypesError>
-    ensures { IsAsSaid (λ v. types_view v.items) result (SaysEach (map view tables.now))
-        (OneFailsAt (map view tables.now)) }
+    ensures ok { IfOk result (λ v. IsOnly (SaysEach (map view tables.now)) (types_view v.items)) }
+    ensures err { IfErr result (TellsTable (FirstFails (map view tables.now))) }
 {
     let mut messages = Vec::new(alloc);
-    for table in tables {
-        messages.push(typed_message(alloc, table)?)?;
+    for (i, table) in tables.iter().enumerate() {
+        match typed_message(alloc, table) {
+            Ok(message) => messages.push(message)?,
+            Err(error) => return Err(in_message(i + 1, error)),
+        }
     }
     Ok(messages)
 }
 
+/// What is told of the table with a number.
+fn in_message(number: usize, error: KeyError) -> TypesError
+    ensures { result ≡ in_message number error }
+{
+    match error {
+        KeyError::OutOfMemory => TypesError::OutOfMemory,
+        error => TypesError::Message(number, error),
+    }
+}
+
 /// What a table says.
-fn typed_message(alloc: Global, table: &Value) -> Result<TypedMessage, TypesError>
+fn typed_message(alloc: Global, table: &Value) -> Result<TypedMessage, KeyError>
     ensures { IsAsSaid typed_view result (SaysTable (view table.now)) (FailsAt (view table.now)) }
 {
     let service = id_at(table, "service")?;

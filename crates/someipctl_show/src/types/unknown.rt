@@ -1,13 +1,14 @@
 //! Keys that the format does not have.
-ghost use Rattle.std.specs.Prelude.{◌≡◌, ◌||◌, map, string_bytes};
+ghost use Rattle.std.specs.Prelude.{◌≡◌, false, Some, map, string_bytes, IfErr, OnOk};
 ghost use Rattle.std.specs.List.{list_any, find};
-ghost use Rattle.std.specs.Option.{is_some, option_map};
+ghost use Rattle.std.specs.Option.{option_map};
 ghost use Rattle.std.specs.BTreeMap.{keys};
 ghost use Rattle.toml.specs.View.{view};
-ghost use Rattle.someipctl_show.specs.types.Refusals.{RefusesKey};
-ghost use Rattle.someipctl_show.specs.types.Tables.{file_keys, table_keys, is_unknown, has_unknown};
+ghost use Rattle.someipctl_show.specs.types.Faults.{FirstHasUnknown, HasFault, IsUnknownAmong, IsUnknownIn, TellsTable};
+ghost use Rattle.someipctl_show.specs.types.Tables.{file_keys, table_keys, is_unknown, has_unknown, has_unknown_key, message_tables, number_of};
 
 use crate::types::error::TypesError;
+use crate::types::key_error::KeyError;
 use someip_texts::{is_one_of, lesser};
 use std::alloc::Global;
 use toml::{Table, Value};
@@ -35,7 +36,7 @@ fn unknown_member<'a>(members: &'a Table, known: &[&str]) -> Option<&'a String>
 
 /// The least key of a table that it may not have.
 fn first_unknown<'a>(table: &'a Value, known: &[&str]) -> Option<&'a str>
-    ensures { is_some result ≡ has_unknown (map (λ k. k.now) known.now) (view table.now) }
+    ensures { IsUnknownIn (map (λ k. k.now) known.now) (view table.now) (option_map (λ key. key.now) result) }
 {
     let Some(members) = table.as_table() else {
         return None;
@@ -48,7 +49,7 @@ fn first_unknown<'a>(table: &'a Value, known: &[&str]) -> Option<&'a str>
 
 /// The least unknown key of the tables.
 fn unknown_of(tables: &[Value]) -> Option<&str>
-    ensures { is_some result ≡ list_any (has_unknown table_keys) (map view tables.now) }
+    ensures { IsUnknownAmong (map view tables.now) (option_map (λ key. key.now) result) }
 {
     let mut least = None;
     for table in tables {
@@ -57,28 +58,57 @@ fn unknown_of(tables: &[Value]) -> Option<&str>
     least
 }
 
-/// The least unknown key of the file, or else of its tables.
-fn unknown_in<'a>(tree: &'a Value, tables: &'a [Value]) -> Option<&'a str>
-    ensures { is_some result ≡ (has_unknown file_keys (view tree.now)
-        || list_any (has_unknown table_keys) (map view tables.now)) }
+/// The number of the first table that has a key.
+fn number_of(tables: &[Value], key: &str) -> Option<usize>
+    ensures { result ≡ number_of key.now (map view tables.now) }
+{
+    for (i, table) in tables.iter().enumerate() {
+        if table.get(key).is_some() {
+            return Some(i + 1);
+        }
+    }
+    None
+}
+
+/// Refuses a file that has an unknown key.
+fn refuse_unknown_of_file(alloc: Global, tree: &Value) -> Result<(), TypesError>
+    ensures ok { OnOk result (has_unknown file_keys (view tree.now) ≡ false) }
+    ensures err { IfErr result (HasFault (view tree.now)) }
 {
     match first_unknown(tree, &FILE_KEYS) {
-        Some(key) => Some(key),
-        None => unknown_of(tables),
+        Some(key) => {
+            let key = String::from_str(alloc, key)?;
+            Err(TypesError::File(KeyError::UnknownKey(key)))
+        }
+        None => Ok(()),
     }
 }
 
-/// Refuses a file with these tables that has an unknown key.
+/// Refuses tables of which one has an unknown key: the least is told, and the first table that has it.
+fn refuse_unknown_of_tables(alloc: Global, tables: &[Value]) -> Result<(), TypesError>
+    ensures ok { OnOk result (list_any (has_unknown table_keys) (map view tables.now) ≡ false) }
+    ensures err { IfErr result (TellsTable (FirstHasUnknown (map view tables.now))) }
+{
+    let Some(key) = unknown_of(tables) else {
+        return Ok(());
+    };
+    let Some(number) = number_of(tables, key) else {
+        return Ok(());
+    };
+    let key = String::from_str(alloc, key)?;
+    Err(TypesError::Message(number, KeyError::UnknownKey(key)))
+}
+
+/// Refuses a file with these tables that has an unknown key, of its own or in a table.
 pub(crate) fn refuse_unknown(
     alloc: Global,
     tree: &Value,
     tables: &[Value],
 ) -> Result<(), TypesError>
-    ensures { RefusesKey (has_unknown file_keys (view tree.now)
-        || list_any (has_unknown table_keys) (map view tables.now)) result }
+    requires { message_tables (view tree.now) ≡ Some (map view tables.now) }
+    ensures ok { OnOk result (has_unknown_key (view tree.now) ≡ false) }
+    ensures err { IfErr result (HasFault (view tree.now)) }
 {
-    match unknown_in(tree, tables) {
-        Some(key) => Err(TypesError::UnknownKey(String::from_str(alloc, key)?)),
-        None => Ok(()),
-    }
+    refuse_unknown_of_file(alloc, tree)?;
+    refuse_unknown_of_tables(alloc, tables)
 }

@@ -6,6 +6,7 @@ pub returns : goal.returns
 unfolding clap_on_literals
 returns c = record {
   show = refl;
+  encode = refl;
   vectors = refl;
   run = refl;
   run_options = refl;

@@ -1,14 +1,14 @@
 use Rattle.std.proofs.Common.{None, codes, [], ◌∷◌, refl, true≢false}
 use Rattle.toml.proofs.OnLiterals.{toml_on_literals}
 use Rattle.someip_payload_values.specs.Check.{checked}
-use Rattle.someip_payload.specs.ShapeText.{struct_text, next_member, last_member, member_text, integer_text, u16_text, u8_text}
+use Rattle.someip_payload.specs.ShapeText.{IsTextOf, struct_text, next_member, last_member, member_text, integer_text, u16_text, u8_text}
 use Rattle.someipctl_show.specs.types.Examples.{speed_data}
 use Rattle.someipctl_show.proofs.types.laws.what_texts_say.Goals as goal
 
 pub returns-clause-tables : goal.returns-clause-tables
 unfolding toml_on_literals checked
 returns-clause-tables c =
-    let named = struct_text None _ (codes "u16,u8") (next_member _ _ (codes "u16") (codes "u8") (member_text None _ (codes "u16") tt (integer_text _ _ u16_text)) (last_member _ (codes "u8") (member_text None _ (codes "u8") tt (integer_text _ _ u8_text)))) in
+    let named : IsTextOf _ (codes "struct(u16,u8)") = struct_text None _ (codes "u16,u8") (next_member _ _ (codes "u16") (codes "u8") (member_text None _ (codes "u16") tt (integer_text _ _ u16_text)) (last_member _ (codes "u8") (member_text None _ (codes "u8") tt (integer_text _ _ u8_text)))) in
     record {
       tables = (speed_data ∷ [], refl, (record { service = refl; method = refl; kind = refl; form = (codes "struct(u16,u8)", refl, (named, refl)); name = refl }, tt));
       known = refl;

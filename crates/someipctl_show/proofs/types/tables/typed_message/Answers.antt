@@ -2,7 +2,7 @@ use Rattle.std.proofs.Common.{codes}
 use Rattle.std.proofs.lemmas.Result.{err_from_is_err_and}
 use Rattle.toml.specs.View.{view}
 use Rattle.someipctl_show.specs.types.Keys.{id_at, kind_at, label_at}
-use Rattle.someipctl_show.specs.types.Says.{no_service, no_method, no_type, no_name}
+use Rattle.someipctl_show.specs.types.Faults.{no_service, no_method, no_type, no_name}
 use Rattle.someipctl_show.specs.types.Views.{typed_view}
 use Rattle.someipctl_show.proofs.about_types.TableLemmas.{fails_by, form_fails, table_said}
 use Rattle.someipctl_show.proofs.types.tables.typed_message.Goals as goal

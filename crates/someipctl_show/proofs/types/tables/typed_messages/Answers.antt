@@ -1,19 +1,20 @@
 use Rattle.std.proofs.lemmas.List.{map_push}
-use Rattle.std.proofs.lemmas.Result.{err_from_is_err_and}
 use Rattle.someipctl_show.specs.types.Views.{typed_view, types_view}
-use Rattle.someipctl_show.proofs.about_types.TableLemmas.{after_one, at_fault, at_end}
+use Rattle.someipctl_show.proofs.about_types.TableLemmas.{after_one, at_fault, at_end, at_first}
 use Rattle.someipctl_show.proofs.types.tables.typed_messages.Goals as goal
 
-pub returns-in_err-typed_message : goal.returns-in_err-typed_message
-returns-in_err-typed_message c =
-    let p = err_from_is_err_and c.from_residual.result c.from_residual.ensures.1 in
-    rw (p.1, p.2)
-    (at_fault (types_view c.loop-table.messages.items) c.loop-table.table-index c.args.tables.now _ _ c.loop-table-test.true (rw c.table-item.is at c.in_err-typed_message.ensures))
+pub loop-i-init : goal.loop-i-init
+loop-i-init c = rw c.new-messages.ensures.items (at_first c.args.tables.now)
 
-pub loop-table-preserved : goal.loop-table-preserved
-loop-table-preserved c =
-    rw (c.in_ok-push.ensures.items, map_push typed_view c.loop-table.messages.items c.in_ok-typed_message.field-0)
-    (after_one (types_view c.loop-table.messages.items) c.loop-table.table-index c.args.tables.now _ _ c.loop-table-test.true (rw c.table-item.is at c.in_ok-typed_message.ensures) c.loop-table.invariant)
+pub returns-in-Err-clause-err : goal.returns-in-Err-clause-err
+returns-in-Err-clause-err c =
+    rw c.in_message.ensures
+    (at_fault (types_view c.loop-i.messages.items) c.loop-i.i c.args.tables.now _ _ c.loop-i-test.true c.loop-i.invariant (rw c.index-tables-i.is at c.in-Err.ensures))
 
-pub returns : goal.returns
-returns c = at_end (types_view c.loop-table.messages.items) c.loop-table.table-index c.args.tables.now c.loop-table-test.false c.loop-table.invariant
+pub loop-i-preserved : goal.loop-i-preserved
+loop-i-preserved c =
+    rw (c.in_ok-push-in-Ok.ensures.items, map_push typed_view c.loop-i.messages.items c.in-Ok.message)
+    (after_one (types_view c.loop-i.messages.items) c.loop-i.i c.args.tables.now _ _ c.loop-i-test.true (rw c.index-tables-i.is at c.in-Ok.ensures) c.loop-i.invariant)
+
+pub returns-clause-ok : goal.returns-clause-ok
+returns-clause-ok c = at_end (types_view c.loop-i.messages.items) c.loop-i.i c.args.tables.now c.loop-i-test.false c.loop-i.invariant
