@@ -8,6 +8,9 @@ shapes, payloads, recordings, and words that come to no command. A setup is run 
 one place of the worked setup, and those of `in_order` put fault after fault into a setup with every key (but `liar`,
 which a row adds), so that each is told before all that stand there already. A types file shows a request, whose value
 is told where the file has a table. Each row stands in a file of `sweeps/texts`.
+
+A value that the vectors expect is encoded from its text, and what that writes is told by the same text. Each front of the
+text is read, or is refused where it ends; and with a space behind it the text is refused there.
 """
 import concurrent.futures
 import os
@@ -17,6 +20,7 @@ import tempfile
 from pathlib import Path
 
 from payloads import FAULTS, TAGGED_FAULTS, bad_shapes, deep_shapes
+from printed import fronts_of, printed_values
 from recordings import recordings
 from schedule_rows import schedules
 from setups import setups
@@ -84,6 +88,28 @@ def is_fault(program, shape, digits, fault):
     return run(program, ["payload", shape, digits]) == (1, f"fault {fault}\n", "")
 
 
+def encoded(program, shape, text):
+    return run(program, ["encode", "--", shape, text])
+
+
+def is_refused_at_end(program, shape, front):
+    """A front of a text of a value is a text of another one, or is refused where it ends."""
+    status, shown, error = encoded(program, shape, front)
+    return error in ("", f"bad value at {len(front.encode())}\n") and (status == 1) == (shown == "" or shown.startswith("fault"))
+
+
+def is_printed(program, shape, text, can_be_written):
+    """A value is encoded from its text, and told by it again; the text goes on nowhere, and its fronts do."""
+    status, digits, error = encoded(program, shape, text)
+    if not can_be_written:
+        return (status, digits, error) == (1, "fault TooLong at 0\n", "")
+    digits = digits.removesuffix("\n")
+    whole = f"value {text}\nused {len(digits) // 2} of {len(digits) // 2}\n"
+    return ((status, error) == (0, "") and run(program, ["payload", shape, digits]) == (0, whole, "")
+            and encoded(program, shape, text + " ") == (1, "", f"bad value at {len(text.encode())}\n")
+            and all(is_refused_at_end(program, shape, front) for front in fronts_of(shape, text)))
+
+
 def is_of_whole_lines(text):
     """A text ends with the end of its last line, and no empty line stands there."""
     return text.endswith("\n") and not text.endswith("\n\n")
@@ -116,6 +142,7 @@ PARTS = {
     "shape": (is_bad_shape, bad_shapes()),
     "deep shape": (is_shape, [(text,) for text in deep_shapes()]),
     "payload": (is_fault, (*FAULTS, *TAGGED_FAULTS)),
+    "printed value": (is_printed, printed_values()),
     "help": (is_help, HELP),
     "usage": (is_usage, USAGE),
     "value": (is_value, tuple(values())),
