@@ -1,8 +1,4 @@
-"""A bench: two nodes, whose datagrams the tests carry by hand.
-
-`python3 -m unittest` runs it in this folder, once libsomeip.so is there
-(someip.py says how it is made); ./run makes it and runs the tests.
-"""
+"""A bench: two nodes, whose datagrams the tests carry by hand."""
 import unittest
 
 import someip

@@ -2,20 +2,16 @@
 
 A node has no sockets, no clock and no threads: the bench carries
 datagrams to it and from it, and tells it how much time has passed.
-test_bench.py beside this file shows how.
 
-The module loads the shared object libsomeip.so beside it, or the one
-that the environment variable SOMEIP_LIBRARY names. This makes it, in
-this folder, of the archive and the allocator's file:
-
-    cc -shared -fPIC -o libsomeip.so \\
-        ../../crates/someip_c/include/someip_heap.c -Wl,--whole-archive \\
-        ../../crates/someip_c/out/libsomeip_c.a -Wl,--no-whole-archive
+The module loads the shared library that the environment variable
+SOMEIP_LIBRARY names; or libsomeip.so beside it, or in the folder lib
+that ./install makes; or else one that the system finds.
 
 Names are those of someip.h, which says what each function does and
 what each number means. `from`, a word of Python, is `from_` here.
 """
 import ctypes
+import ctypes.util
 import ipaddress
 import os
 from typing import NamedTuple
@@ -279,10 +275,19 @@ FUNCTIONS = {
 }
 
 
-def _load():
-    """The shared object, with the types of its functions."""
+def _path():
+    """Where the shared library is."""
     here = os.path.dirname(os.path.abspath(__file__))
-    path = os.environ.get("SOMEIP_LIBRARY", f"{here}/libsomeip.so")
+    named = os.environ.get("SOMEIP_LIBRARY")
+    # (./install puts this package at share/someip/python/someip)
+    beside = [f"{here}/libsomeip.so", f"{here}/../../../../lib/libsomeip.so.1"]
+    found = named or next(filter(os.path.exists, beside), None)
+    return found or ctypes.util.find_library("someip") or "libsomeip.so.1"
+
+
+def _load():
+    """The shared library, with the types of its functions."""
+    path = _path()
     library = ctypes.CDLL(path)
     for name, types in FUNCTIONS.items():
         function = getattr(library, name)

@@ -1,4 +1,4 @@
-"""Looks whether someip.py has what someip.h has.
+"""Looks whether the package has what someip.h has.
 
 Nothing else does: ctypes takes numbers, structs and functions as the
 module says them.
@@ -9,12 +9,13 @@ import re
 import unittest
 
 import someip
+from someip import node
 
 HEADER = os.path.join(os.path.dirname(os.path.abspath(__file__)),
                       "../../crates/someip_c/include/someip.h")
-STRUCTS = {"someip_handle": someip._Handle,
-           "someip_endpoint": someip._Endpoint,
-           "someip_output": someip._Output}
+STRUCTS = {"someip_handle": node._Handle,
+           "someip_endpoint": node._Endpoint,
+           "someip_output": node._Output}
 # What a type of the header is in the module.
 TYPES = {"bool": ctypes.c_bool, "void *": ctypes.c_void_p,
          "uint8_t": ctypes.c_uint8, "uint16_t": ctypes.c_uint16,
