@@ -30,7 +30,7 @@ use std::alloc::Global;
 /// [`encode`](crate::encode) to say.
 ///
 /// A fault's place is that of the first byte at which no text of a value of the shape goes on, which is the length
-/// of a text that ends too early.
+/// of a text that ends too early. The number of a variant that there is not is told at its first byte.
 #[tactic(auto, using(crate::proofs::ValueWhole::whole_found, crate::proofs::ValueEach::read_only))]
 pub fn read_value(alloc: Global, shape: &Shape, text: &str) -> Result<Value, ValueTextError>
     ensures found { IfOk result (λ value. IsTextOfValue (form shape.now) (data_of value) text.now) }

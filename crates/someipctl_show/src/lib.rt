@@ -1,4 +1,4 @@
-//! The commands `show`, `payload` and `vectors` of `someipctl`: what each reads, does and prints, over
+//! The commands `show`, `payload`, `encode` and `vectors` of `someipctl`: what each reads, does and prints, over
 //! readers and writers; and what of it `recording` prints too.
 //!
 //! - [`show`]: the messages of a capture;
