@@ -7,10 +7,6 @@ VECTORS = Path(__file__).resolve().parents[2] / "examples" / "vectors" / "all.tx
 TOO_LONG = ("utf8fix<4>", '"ABC"')
 
 
-# A front of a variant's number is told as one that there is not, at its first byte.
-IN_PARTS = ("union/8/32(300:u8)", "300:5")
-
-
 def printed_values():
     """The shape and the text of each value, and whether the value can be written."""
     found, shape = {}, None
@@ -22,7 +18,6 @@ def printed_values():
     return [(*value, value != TOO_LONG) for value in found]
 
 
-def fronts_of(shape, text):
-    """The fronts of a text that are shorter, by whole characters, and are refused where they end if at all."""
-    least = text.index(":") if (shape, text) == IN_PARTS else 0
-    return [text[:count] for count in range(least, len(text))]
+def fronts_of(text):
+    """The fronts of a text that are shorter, by whole characters: each is refused where it ends, if at all."""
+    return [text[:count] for count in range(len(text))]

@@ -27,3 +27,6 @@ pub mod ValueTextsAgain
 pub mod ValueEach
 pub mod ValueFloatBytes
 pub mod ValueLaw
+pub mod ValueLawTexts
+pub mod ValueLawForms
+pub mod ValueLawWhole

@@ -2,8 +2,10 @@
 use Rattle.std.proofs.Common.{◌≡◌, ℕ, zero, suc, ◌+◌, ◌-◌, ◌<◌, ◌≤◌, Bool, true, false, ◌&&◌, ⊎_elim, List, [], ◌∷◌, ◌++◌, length, get_or, drop, slice_range, codes, Option, Some, None, append_assoc, refl, sym, ap, subst, ◌∙◌, arith}
 use Rattle.std.specs.Prelude.{nat_lt}
 use Rattle.std.specs.List.{list_all}
+use Rattle.std.specs.Str.{IsUtf8}
 use Rattle.std.proofs.lemmas.Bool.{cases_lt, false≢true}
 use Rattle.std.proofs.lemmas.Bool.Decides.{nat_tests}
+use Rattle.std.proofs.lemmas.Str.{IsUtf8-from_ascii}
 use Rattle.std.proofs.lemmas.List.{length-append, length-take, length-drop, get_or_append_left, get_or_at, get_or-drop, get_or-take}
 use Rattle.std.proofs.lemmas.List.Folds.{list_all-append}
 use Rattle.someip_payload_values.specs.Check.{is_first, is_later, is_name}
@@ -133,3 +135,21 @@ colon_behind text at end some only none None rest is name stops = absurd (some (
 colon_behind text at end some only none (Some n) rest is name stops =
     let there : drop at text ≡ n ++ (58 ∷ rest) = is ∙ append_assoc n (codes ":") rest in
     (rest, behind_piece text n (58 ∷ rest) at end there (only n (58 ∷ rest) there name refl))
+
+-- ---- a name is a text
+
+later_low : (b : ℕ) → is_later b ≡ true → b < 128
+later_low b is = grind (arith, nat_tests)
+
+ascii_at : (bs : List ℕ) → list_all is_later bs ≡ true → (i : ℕ) → get_or bs i 0 < 128
+ascii_at [] all i = omega arith
+ascii_at (b ∷ bs) all zero = later_low b (both (is_later b) (list_all is_later bs) all).0
+ascii_at (b ∷ bs) all (suc i) = ascii_at bs (both (is_later b) (list_all is_later bs) all).1 i
+
+pub name_utf8 : (n : List ℕ) → is_name n ≡ true → IsUtf8 n
+name_utf8 [] is = absurd (false≢true is)
+name_utf8 (b ∷ bs) is =
+    let parts = both (is_first b) (list_all is_later bs && nat_lt (length bs) 64) is in
+    let rest = (both (list_all is_later bs) (nat_lt (length bs) 64) parts.1).0 in
+    let first : is_later b ≡ true = rw parts.0 refl in
+    IsUtf8-from_ascii (b ∷ bs) (ascii_at (b ∷ bs) (and_true (is_later b) (list_all is_later bs) first rest))

@@ -9,8 +9,8 @@ use Rattle.std.proofs.lemmas.Bool.Decides.{nat_tests}
 use Rattle.std.proofs.lemmas.Fmt.{decimal_by_steps, decimal_nonempty}
 use Rattle.std.proofs.lemmas.List.Folds.{list_all-append}
 use Rattle.someip_payload_values.specs.Data.{Data, truth, uint, int}
-use Rattle.someip_payload.specs.ReadValues.{Read, is_plain, token, past_token, after, atom_in, truth_of, begins_word, long_of, below_zero, signed_of, unsigned_by, signed_by, unsigned_of, integer_of, skip_name, or_text}
-use Rattle.someip_payload.specs.ValueReading.{IsLong, IsTextOfUnsigned, IsTextOfSigned, truth_text}
+use Rattle.someip_payload.specs.ReadValues.{Read, token, past_token, after, atom_in, truth_of, long_of, below_zero, signed_of, unsigned_by, signed_by, unsigned_of, integer_of, skip_name, or_text}
+use Rattle.someip_payload.specs.ValueReading.{IsLong, IsTextOfUnsigned, IsTextOfSigned, truth_text, is_plain, begins_word}
 use Rattle.someip_payload.proofs.Fronts.{both}
 use Rattle.someip_payload.proofs.ValueTokens.{lt_true, number_of_decimal, same_bytes}
 

@@ -16,8 +16,8 @@ use Rattle.someip_payload_values.specs.View.{data_of}
 use Rattle.someip_payload.specs.declared.value_text_error.ValueTextError.{ValueTextError}
 use Rattle.someip_payload.specs.declared.value_text_error.ValueTextError.TheVariants.{BadValue, OutOfMemory}
 use Rattle.someip_payload_values.specs.ValueText.{listed, behind_comma, listed_from, comma_before}
-use Rattle.someip_payload.specs.ReadValues.{Read, begins_word, token, past_token, after, enum_in, elements_in, list_in, comma_at, skip_name, slot_in, slot_then, chosen_in, union_in, value_in, members_in, variant_in, slots_in, value_of_text, GivesValue, IsReadAsValue}
-use Rattle.someip_payload.specs.ValueReading.{IsTextOfEnum, AreTextsOfElements, IsNameOf, IsTextOfValue, AreTextsOfMembers, IsTextOfVariant, AreTextsOfSlots}
+use Rattle.someip_payload.specs.ReadValues.{Read, token, past_token, after, enum_in, elements_in, list_in, comma_at, skip_name, slot_in, slot_then, chosen_in, union_in, value_in, members_in, variant_in, slots_in, value_of_text, GivesValue}
+use Rattle.someip_payload.specs.ValueReading.{IsTextOfEnum, AreTextsOfElements, IsNameOf, IsTextOfValue, AreTextsOfMembers, IsTextOfVariant, AreTextsOfSlots, begins_word, IsReadAsValue}
 use Rattle.someip_payload.proofs.ValueSteps.{some_is, none_some}
 use Rattle.someip_payload.proofs.ValueTokens.{number_of_decimal}
 use Rattle.someip_payload.proofs.ValueAgain.{Ends, ends-byte, ends-nothing, plain_first, Again, token_again, past_token_again, truth_again, unsigned_again, signed_again, decimal_plain, decimal_first, skip_none, skip_own}

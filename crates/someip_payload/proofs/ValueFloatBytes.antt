@@ -9,7 +9,7 @@ use Rattle.std.proofs.lemmas.Bool.{false≢true}
 use Rattle.std.proofs.lemmas.Bool.Decides.{nat_tests}
 use Rattle.std.proofs.lemmas.Float.Parse.{is_some-parse_float}
 use Rattle.fast_float.specs.Parse.{parse_float}
-use Rattle.someip_payload.specs.ReadValues.{is_plain}
+use Rattle.someip_payload.specs.ValueReading.{is_plain}
 use Rattle.someip_payload.proofs.Fronts.{both}
 
 dead_step : (c : ℕ) → float_scan_step 7 c ≡ 7

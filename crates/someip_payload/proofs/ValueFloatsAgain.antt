@@ -16,8 +16,8 @@ use Rattle.hex.proofs.HexLemmas.{length-encode_with, decode_of-encode_lower, dec
 use Rattle.someip_payload_values.specs.Data.{Data, real}
 use Rattle.someip_payload_values.specs.Floats.{Precision, single, double, format_of, bits_size, nan_text}
 use Rattle.someip_payload_values.specs.Numbers.{width_of, number, limit_of}
-use Rattle.someip_payload.specs.ReadValues.{is_plain, token, past_token, after, bits_of, float_of, nan_with, nan_from, nan_of, nan_in, float_in}
-use Rattle.someip_payload.specs.ValueReading.{IsTextOfFloat}
+use Rattle.someip_payload.specs.ReadValues.{token, past_token, after, bits_of, float_of, nan_with, nan_from, nan_of, nan_in, float_in}
+use Rattle.someip_payload.specs.ValueReading.{IsTextOfFloat, is_plain}
 use Rattle.someip_payload.proofs.Fronts.{both}
 use Rattle.someip_payload.proofs.ValueFloatBytes.{float_plain}
 use Rattle.someip_payload.proofs.ValueSteps.{some_is, none_some}

@@ -14,8 +14,8 @@ use Rattle.someip_payload_values.specs.Floats.{Precision, format_of, bits_size, 
 use Rattle.someip_payload_values.specs.Numbers.{width_of, number, limit_of}
 use Rattle.someip_payload_values.specs.ValueText.{listed, behind_comma}
 use Rattle.someip_payload.specs.Fronts.{common}
-use Rattle.someip_payload.specs.ReadValues.{Read, ◌>>=◌, is_plain, token, past_token, after, truth_of, begins_word, labelled, natural_of, long_of, number_of, signed_of, unsigned_by, signed_by, unsigned_of, integer_of, bits_of, float_of, nan_with, nan_from, nan_of, nan_in, float_in, is_control, byte_of, escapes, escape_in, byte_in, unquoted, as_text, string_in, elements_in, list_in, enum_in}
-use Rattle.someip_payload.specs.ValueReading.{IsTextOfUnsigned, IsTextOfSigned, IsTextOfEnum, IsTextOfFloat, truth_text, escaped_byte, IsTextOfPhrase, AreTextsOfElements}
+use Rattle.someip_payload.specs.ReadValues.{Read, ◌>>=◌, token, past_token, after, truth_of, natural_of, long_of, number_of, signed_of, unsigned_by, signed_by, unsigned_of, integer_of, bits_of, float_of, nan_with, nan_from, nan_of, nan_in, float_in, byte_of, escapes, escape_in, byte_in, unquoted, as_text, string_in, elements_in, list_in, enum_in}
+use Rattle.someip_payload.specs.ValueReading.{IsTextOfUnsigned, IsTextOfSigned, IsTextOfEnum, IsTextOfFloat, truth_text, escaped_byte, IsTextOfPhrase, AreTextsOfElements, is_plain, begins_word, labelled, is_control}
 use Rattle.someip_payload.proofs.ValueSteps.{none_some, some_is, pair_is, some_then, if_then, if_either, or_either, token_whole, after_is, Found, atom_found, number_is, natural_is, long_is, signed_is}
 use Rattle.someip_payload.proofs.ValueTokens.{true_lt}
 

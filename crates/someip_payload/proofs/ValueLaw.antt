@@ -8,8 +8,7 @@ use Rattle.std.specs.Str.{bytes_eq}
 use Rattle.std.proofs.lemmas.Bool.{false≢true}
 use Rattle.std.proofs.lemmas.Bool.Decides.{Decides-int_eq}
 use Rattle.someip_payload_values.specs.Check.{is_first, is_later, is_name, are_names}
-use Rattle.someip_payload.specs.ReadValues.{is_plain, labelled}
-use Rattle.someip_payload.specs.ValueReading.{IsWord, SaysNumber}
+use Rattle.someip_payload.specs.ValueReading.{IsWord, SaysNumber, is_plain, labelled}
 use Rattle.someip_payload_values.specs.ValueText.{number_said}
 use Rattle.someip_payload.proofs.Fronts.{both}
 use Rattle.someip_payload.proofs.ValueTokens.{same_bytes}

@@ -7,8 +7,8 @@ use Rattle.std.specs.Str.{bytes_eq}
 use Rattle.std.proofs.lemmas.Bool.Decides.{nat_tests}
 use Rattle.std.proofs.lemmas.Slice.Eq.{bytes_eq-Decides}
 use Rattle.someip_payload_values.specs.Data.{Data}
-use Rattle.someip_payload.specs.ReadValues.{◌>>=◌, or_else, is_plain, token, past_token, after, atom_in, number_of, below_zero, above_zero, signed_of, natural_of, long_of, skip_name, or_text}
-use Rattle.someip_payload.specs.ValueReading.{IsLong, IsNameOf}
+use Rattle.someip_payload.specs.ReadValues.{◌>>=◌, or_else, token, past_token, after, atom_in, number_of, below_zero, above_zero, signed_of, natural_of, long_of, skip_name, or_text}
+use Rattle.someip_payload.specs.ValueReading.{IsLong, IsNameOf, is_plain}
 use Rattle.someip_payload.proofs.Fronts.{both}
 use Rattle.someip_payload.proofs.ValueTokens.{number_or, true_lt}
 

@@ -4,8 +4,8 @@ use Rattle.std.specs.List.{flat_map}
 use Rattle.std.proofs.lemmas.Bool.Decides.{nat_tests}
 use Rattle.std.proofs.lemmas.List.{length-append}
 use Rattle.someip_payload_values.specs.Data.{Data, phrase}
-use Rattle.someip_payload.specs.ReadValues.{token, past_token, after, is_control, byte_of, escape_in, byte_in, unquoted, as_text, string_in}
-use Rattle.someip_payload.specs.ValueReading.{escaped_byte, hex_text, IsTextOfPhrase}
+use Rattle.someip_payload.specs.ReadValues.{token, past_token, after, byte_of, escape_in, byte_in, unquoted, as_text, string_in}
+use Rattle.someip_payload.specs.ValueReading.{escaped_byte, hex_text, IsTextOfPhrase, is_control}
 use Rattle.someip_payload.proofs.ValueAgain.{Ends, Again}
 
 -- ---- texts

@@ -11,7 +11,8 @@ use Rattle.std.proofs.lemmas.Fmt.{decimal_is_IsNumeral, parse-decimal}
 use Rattle.std.proofs.lemmas.List.{drop_all, take_more}
 use Rattle.std.proofs.lemmas.Slice.Eq.{bytes_eq-Decides}
 use Rattle.someip_payload_values.specs.View.{labels_of}
-use Rattle.someip_payload.specs.ReadValues.{Read, ◌>>=◌, is_plain, token, past_token, after, number_of, labelled, byte_of, byte_in, unquoted}
+use Rattle.someip_payload.specs.ReadValues.{Read, ◌>>=◌, token, past_token, after, number_of, byte_of, byte_in, unquoted}
+use Rattle.someip_payload.specs.ValueReading.{is_plain, labelled}
 use Rattle.someip_payload.specs.Fronts.{common}
 use Rattle.someip_payload.proofs.Fronts.{both}
 

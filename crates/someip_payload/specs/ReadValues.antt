@@ -1,5 +1,5 @@
 -- The plain program that reads a value from the front of a text, and says what is left of it.
-use Rattle.std.specs.Prelude.{ℕ, zero, suc, ℤ, pos, negsuc, ◌+◌, ◌-◌, ◌^◌, ◌==◌, ◌&&◌, ◌||◌, nat_lt, nat_le, Bool, true, false, List, [], ◌∷◌, length, drop, codes, Option, Some, None, Result, Ok, Err, if◌then◌else◌, ◌≡◌, ◌≤◌, ⊤, is_nan}
+use Rattle.std.specs.Prelude.{ℕ, zero, suc, ℤ, pos, negsuc, ◌+◌, ◌-◌, ◌^◌, ◌==◌, ◌&&◌, nat_lt, nat_le, true, false, List, [], ◌∷◌, length, drop, codes, Option, Some, None, Result, Ok, Err, if◌then◌else◌, ◌≡◌, ⊤, is_nan}
 use Rattle.std.specs.Fmt.{decimal}
 use Rattle.std.specs.Int.{byte_len, from_be_bytes}
 use Rattle.std.specs.Str.{bytes_eq, is_utf8}
@@ -8,13 +8,12 @@ use Rattle.std.specs.Float.Ieee.{to_bits, nan_bits}
 use Rattle.fast_float.specs.Parse.{parse_float}
 use Rattle.hex.specs.Hex.{encode_lower, decode_sized}
 use Rattle.hex.specs.declared.error.FromHexError.{FromHexError}
-use Rattle.someip_payload_values.specs.Check.{is_first, is_later, name_in}
+use Rattle.someip_payload_values.specs.Check.{name_in}
 use Rattle.someip_payload_values.specs.Data.{Form, bool, unsigned, signed, float, string, padded, array, fixed, «struct», union, tagged, named, enumerated, Forms, no_forms, form_then, Variants, no_variants, variant, Members, no_members, member_then, Data, truth, uint, int, real, phrase, list, tuple, nothing, chosen, slotted, Items, no_items, item, Slots, no_slots, present, absent}
 use Rattle.someip_payload_values.specs.Floats.{Precision, format_of, bits_size}
 use Rattle.someip_payload_values.specs.Numbers.{width_of, number, limit_of}
-use Rattle.someip_payload_values.specs.View.{data_of}
-use Rattle.someip_payload_values.specs.declared.value.Value.{Value}
 use Rattle.someip_payload.specs.Fronts.{common}
+use Rattle.someip_payload.specs.ValueReading.{is_plain, begins_word, labelled, is_control}
 use Rattle.someip_payload.specs.declared.value_text_error.ValueTextError.{ValueTextError}
 use Rattle.someip_payload.specs.declared.value_text_error.ValueTextError.TheVariants.{BadValue, OutOfMemory}
 
@@ -42,10 +41,6 @@ or_else (Some rest) found other = found rest
 or_else None found other = other
 
 -- ---- tokens and single bytes
-
--- a byte of a word or of a number: a letter, a digit, an underscore, a sign or a point
-abbrev pub is_plain : ℕ → Bool
-is_plain b = is_later b || ((b == 43) || ((b == 45) || (b == 46)))
 
 -- the bytes of words and numbers at the front
 unfoldable pub token : List ℕ → List ℕ
@@ -84,16 +79,6 @@ above_zero n = if nat_lt n (2 ^ 63) then Some (pos n) else None
 -- the same with a sign
 unfoldable pub signed_of : List ℕ → Option ℤ
 signed_of t = or_else (after 45 t) (λ digits. number_of digits >>= below_zero) (number_of t >>= above_zero)
-
--- the value that has this name, the first one if there are several
-unfoldable pub labelled : List (ℤ × List ℕ) → List ℕ → Option ℤ
-labelled [] t = None
-labelled (l ∷ ls) t = if bytes_eq l.1 t then Some l.0 else labelled ls t
-
--- a word begins with a letter or an underscore
-abbrev pub begins_word : List ℕ → Bool
-begins_word [] = false
-begins_word (b ∷ bs) = is_first b
 
 abbrev pub natural_of : ℤ → Option ℕ
 natural_of (pos n) = if nat_lt n (2 ^ 64) then Some n else None
@@ -146,9 +131,6 @@ or_text (Some rest) text = rest
 or_text None text = text
 
 -- ---- texts
-
-abbrev pub is_control : ℕ → Bool
-is_control b = nat_lt b 32 || (b == 127)
 
 -- the byte that the first of these words at the front stands for
 unfoldable pub byte_of : List (List ℕ × ℕ) → List ℕ → Read ℕ
@@ -299,20 +281,9 @@ whole_text (d, b ∷ bs) = None
 unfoldable pub value_of_text : Form → List ℕ → Option Data
 value_of_text f text = value_in f text >>= whole_text
 
--- a fault's place lies in the text or at its end; memory may run out at any
-abbrev pub IsPlaceWithin : ℕ → ValueTextError → Type 0
-IsPlaceWithin most (BadValue place) = place ≤ most
-IsPlaceWithin most OutOfMemory = ⊤
-
 -- a fault at another place, or at the same
 abbrev pub IsFaultAlso : ValueTextError → ValueTextError → Type 0
 IsFaultAlso (BadValue place) (BadValue other) = ⊤
 IsFaultAlso OutOfMemory OutOfMemory = ⊤
 IsFaultAlso (BadValue place) OutOfMemory = ⊥
 IsFaultAlso OutOfMemory (BadValue place) = ⊥
-
--- this was read, unless memory ran out
-abbrev pub IsReadAsValue : Data → Result Value ValueTextError → Type 0
-IsReadAsValue d (Ok value) = data_of value ≡ d
-IsReadAsValue d (Err OutOfMemory) = ⊤
-IsReadAsValue d (Err (BadValue place)) = ⊥

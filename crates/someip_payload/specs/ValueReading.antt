@@ -1,20 +1,37 @@
 -- Which texts say a value of a form: what is printed of it, and with it: any decimal of a float, a number in place of its
 -- name, and members without their names.
-use Rattle.std.specs.Prelude.{◌≡◌, ℕ, ℤ, pos, negsuc, ◌+◌, ◌/◌, ◌%◌, ◌<◌, ◌^◌, nat_lt, ◌⊎◌, ◌==◌, ◌||◌, Bool, true, false, List, [], ◌∷◌, ◌++◌, codes, Some, ⊤, is_nan, if◌then◌else◌}
+use Rattle.std.specs.Prelude.{◌≡◌, ℕ, ℤ, pos, negsuc, ◌+◌, ◌/◌, ◌%◌, ◌<◌, ◌^◌, nat_lt, ◌⊎◌, ◌==◌, ◌||◌, ◌≤◌, Bool, true, false, List, [], ◌∷◌, ◌++◌, codes, Option, Some, None, Result, Ok, Err, ⊤, is_nan, if◌then◌else◌}
 use Rattle.std.specs.Bool.{MatchBool}
 use Rattle.std.specs.List.{list_all, flat_map}
 use Rattle.std.specs.Fmt.{decimal, signed_decimal}
-use Rattle.std.specs.Str.{is_utf8}
+use Rattle.std.specs.Str.{bytes_eq, is_utf8}
 use Rattle.std.specs.Float.Ieee.{Float, to_bits, nan_bits}
 use Rattle.fast_float.specs.Parse.{parse_float}
-use Rattle.someip_payload_values.specs.Check.{name_in}
+use Rattle.someip_payload_values.specs.Check.{is_first, is_later, name_in}
 use Rattle.someip_payload_values.specs.Data.{Form, bool, unsigned, signed, float, string, padded, array, fixed, «struct», union, tagged, named, enumerated, Forms, no_forms, form_then, Variants, no_variants, variant, Members, no_members, member_then, Data, truth, uint, int, real, phrase, list, tuple, nothing, chosen, slotted, Items, no_items, item, Slots, no_slots, present, absent}
 use Rattle.someip_payload_values.specs.Floats.{Precision, format_of, bits_size, nan_text}
 use Rattle.someip_payload_values.specs.Numbers.{limit_of}
 use Rattle.someip_payload_values.specs.ValueText.{listed}
-use Rattle.someip_payload.specs.ReadValues.{is_plain, begins_word, labelled, is_control}
+use Rattle.someip_payload_values.specs.declared.value.Value.{Value}
+use Rattle.someip_payload_values.specs.View.{data_of}
+use Rattle.someip_payload.specs.declared.value_text_error.ValueTextError.{ValueTextError}
+use Rattle.someip_payload.specs.declared.value_text_error.ValueTextError.TheVariants.{BadValue, OutOfMemory}
 
 -- ---- words and numbers
+
+-- a byte of a word or of a number: a letter, a digit, an underscore, a sign or a point
+abbrev pub is_plain : ℕ → Bool
+is_plain b = is_later b || ((b == 43) || ((b == 45) || (b == 46)))
+
+-- the value that has this name, the first one if there are several
+unfoldable pub labelled : List (ℤ × List ℕ) → List ℕ → Option ℤ
+labelled [] t = None
+labelled (l ∷ ls) t = if bytes_eq l.1 t then Some l.0 else labelled ls t
+
+-- a word begins with a letter or an underscore
+abbrev pub begins_word : List ℕ → Bool
+begins_word [] = false
+begins_word (b ∷ bs) = is_first b
 
 -- a word: a letter or an underscore, then bytes of words and numbers
 abbrev pub IsWord : List ℕ → Type 0
@@ -62,6 +79,10 @@ hex_digit d = if nat_lt d 10 then 48 + d else 87 + d
 
 abbrev pub hex_text : ℕ → List ℕ
 hex_text b = if nat_lt b 16 then hex_digit b ∷ [] else hex_digit (b / 16) ∷ hex_digit (b % 16) ∷ []
+
+-- a control character of ASCII
+abbrev pub is_control : ℕ → Bool
+is_control b = nat_lt b 32 || (b == 127)
 
 -- a byte between quotes: a quote and a backslash stand after a backslash, and a control character of ASCII is written by
 -- its number
@@ -129,6 +150,19 @@ abbrev mutual
   AreTextsOfSlots (member_then id optional f ms) (present d ss) (t ∷ ts) = IsTextOfMember (name_in f) (IsTextOfValue f d) t × AreTextsOfSlots ms ss ts
   AreTextsOfSlots (member_then id optional f ms) (absent ss) (t ∷ ts) = IsTextOfMember (name_in f) (λ own. own ≡ codes "-") t × AreTextsOfSlots ms ss ts
   AreTextsOfSlots _ _ _ = ⊥
+
+-- ---- what reading answers
+
+-- a fault's place lies in the text or at its end; memory may run out at any
+abbrev pub IsPlaceWithin : ℕ → ValueTextError → Type 0
+IsPlaceWithin most (BadValue place) = place ≤ most
+IsPlaceWithin most OutOfMemory = ⊤
+
+-- this was read, unless memory ran out
+abbrev pub IsReadAsValue : Data → Result Value ValueTextError → Type 0
+IsReadAsValue d (Ok value) = data_of value ≡ d
+IsReadAsValue d (Err OutOfMemory) = ⊤
+IsReadAsValue d (Err (BadValue place)) = ⊥
 
 -- ---- what is printed
 

@@ -2,7 +2,8 @@
 
 ghost use Rattle.std.specs.Prelude.{◌≡◌, IfOk};
 ghost use Rattle.someip_payload_values.specs.Data.{named, enumerated};
-ghost use Rattle.someip_payload_values.specs.View.{form, forms, all_variants, all_members, labels_of, one_member};
+ghost use Rattle.someip_payload_values.specs.View.{form, forms, all_variants, all_members, labels_of};
+ghost use Rattle.someip_payload.specs.ShapeText.{one_label};
 
 use someip_payload_codec::{Member, Shape};
 use std::alloc::{AllocError, Global};
@@ -90,20 +91,14 @@ fn copy_members(alloc: Global, members: &[Member]) -> Result<Vec<Member>, AllocE
 {
     let mut copies = Vec::new(alloc);
     for member in members {
-        copies.push(copy_member(alloc, member)?)?;
+        let shape = copy_shape(alloc, &member.shape)?;
+        copies.push(Member {
+            id: member.id,
+            is_optional: member.is_optional,
+            shape,
+        })?;
     }
     Ok(copies)
-}
-
-#[cycle(copy)]
-fn copy_member(alloc: Global, member: &Member) -> Result<Member, AllocError>
-    ensures { IfOk result (λ m. one_member m ≡ one_member member.now) }
-{
-    Ok(Member {
-        id: member.id,
-        is_optional: member.is_optional,
-        shape: copy_shape(alloc, &member.shape)?,
-    })
 }
 
 #[cycle(copy)]
@@ -126,8 +121,14 @@ fn copy_labels(alloc: Global, labels: &[(i128, String)]) -> Result<Vec<(i128, St
     ensures { IfOk result (λ v. labels_of v.items ≡ labels_of labels.now) }
 {
     let mut copies = Vec::new(alloc);
-    for (value, name) in labels {
-        copies.push((*value, String::from_str(alloc, name)?))?;
+    for label in labels {
+        copies.push(copy_label(alloc, label)?)?;
     }
     Ok(copies)
+}
+
+fn copy_label(alloc: Global, label: &(i128, String)) -> Result<(i128, String), AllocError>
+    ensures { IfOk result (λ l. one_label l ≡ one_label label.now) }
+{
+    Ok((label.0, String::from_str(alloc, &label.1)?))
 }

@@ -5,7 +5,7 @@ ghost use Rattle.std.specs.Fmt.{decimal};
 ghost use Rattle.someip_payload_values.specs.View.{labels_of};
 ghost use Rattle.someip_payload.specs.ShapeText.{IsFaultWithin, IsReadTo, IsDigit, EndsName, IsValue, IsTextOfLabels, IsTextOfLabel, one_label, value_text};
 
-use crate::names::{name_end, name_from};
+use crate::names::{name_end, name_str};
 use crate::shape_text_error::ShapeTextError;
 use crate::text_parts::{ReadTo, byte_at, has_byte, long_decimal_at, one_after_other};
 use std::alloc::Global;
@@ -42,7 +42,7 @@ fn label_at(alloc: Global, text: &[u8], at: usize) -> ReadTo<(i128, String)>
     if end == first {
         return Err(ShapeTextError::BadShape(first));
     }
-    let name = name_from(alloc, &text[first..end])?;
+    let name = String::from_str(alloc, name_str(&text[first..end]))?;
     Ok(((value, name), end))
 }
 

@@ -14,6 +14,7 @@
 
 mod copies;
 mod labels;
+pub mod laws;
 mod named_shapes;
 mod names;
 mod references;
@@ -36,7 +37,7 @@ pub use shape_text::{read_shape, read_shape_in};
 pub use shape_text_error::ShapeTextError;
 pub use someip_payload_codec::{
     Encoding, MAX_DEPTH, Member, PayloadError, Shape, Told, Value, Width, check_shape, decode,
-    encode, laws,
+    encode,
 };
 pub use value_reading::read_value;
 pub use value_text_error::ValueTextError;

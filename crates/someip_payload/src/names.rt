@@ -9,7 +9,7 @@ ghost use Rattle.someip_payload.specs.ShapeText.{IsFaultWithin, IsReadTo, IsName
 use crate::shape_text_error::ShapeTextError;
 use crate::text_parts::{ReadTo, byte_at, has_byte};
 use someip_payload_codec::Shape;
-use std::alloc::{AllocError, Global};
+use std::alloc::Global;
 
 /// The longest name.
 const MAX_NAME_LEN: usize = 64;
@@ -94,20 +94,20 @@ pub(crate) fn name_to(alloc: Global, text: &[u8], at: usize, end: usize) -> Read
     ensures fault { IfErr result (IsFaultWithin end (length text.now)) }
 {
     let behind = byte_at(b':', text, end)?;
-    let name = name_from(alloc, &text[at..end])?;
+    let name = String::from_str(alloc, name_str(&text[at..end]))?;
     Ok((name, behind))
 }
 
-/// A name as a text of its own.
-pub(crate) fn name_from(alloc: Global, bytes: &[u8]) -> Result<String, AllocError>
+/// The bytes of a name as a text.
+#[tactic(auto, using(crate::proofs::NameBytes::name_utf8))]
+pub(crate) fn name_str(bytes: &[u8]) -> &str
     requires { is_name bytes.now ≡ true }
-    ensures { IfOk result (λ name. string_bytes name ≡ bytes.now) }
+    ensures { result.now ≡ bytes.now }
 {
-    let mut name = String::new(alloc);
-    for byte in bytes {
-        name.push(char::from(*byte))?;
+    match str::from_utf8(bytes) {
+        Ok(name) => name,
+        Err(_) => "",
     }
-    Ok(name)
 }
 
 /// The shape with its name, if it has one.

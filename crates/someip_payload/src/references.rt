@@ -10,7 +10,7 @@ ghost use Rattle.someip_payload.specs.ShapeText.{IsTextIn, EndsName, IsFaultWith
 
 use crate::copies::copy_shape;
 use crate::named_shapes::NamedShapes;
-use crate::names::{name_end, name_from};
+use crate::names::{name_end, name_str};
 use crate::shape_sizes::depth_of;
 use crate::shape_text_error::ShapeTextError;
 use crate::text_parts::ReadTo;
@@ -60,8 +60,7 @@ pub(crate) fn reference_at(
     if end == first {
         return Err(ShapeTextError::BadShape(at));
     }
-    let name = name_from(alloc, &text[first..end])?;
-    let Some(shape) = names.get(&name) else {
+    let Some(shape) = names.get(name_str(&text[first..end])) else {
         return Err(ShapeTextError::BadShape(at));
     };
     if u64::from(left) < depth_of(shape) {

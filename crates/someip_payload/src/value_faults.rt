@@ -3,6 +3,7 @@
 
 use crate::text_parts::common_len;
 use crate::value_text_error::ValueTextError;
+use someip_payload_codec::Shape;
 
 /// The largest number, and how far one may lie below 0.
 const MOST: u64 = u64::MAX;
@@ -43,9 +44,13 @@ pub(crate) fn after_names(
     behind(most, text)
 }
 
-/// Where it goes on neither as `none` nor as a number.
-pub(crate) fn after_numbers(text: &[u8], token: &[u8]) -> ValueTextError {
-    let most = digits_len(token, MOST).max(common_len(b"none", token));
+/// Where a text goes on neither as `none` nor as the number of one of the variants.
+pub(crate) fn after_kinds(variants: &[(u32, Shape)], text: &[u8]) -> ValueTextError {
+    let mut most = common_len(b"none", text);
+    for variant in variants {
+        let mut buffer = itoa::Buffer::new();
+        most = most.max(common_len(buffer.format(variant.0).as_bytes(), text));
+    }
     behind(most, text)
 }
 

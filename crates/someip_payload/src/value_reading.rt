@@ -5,11 +5,11 @@ ghost use Rattle.someip_payload_values.specs.Check.{name_in};
 ghost use Rattle.someip_payload_values.specs.declared.shape.Width.TheVariants.{W32};
 ghost use Rattle.someip_payload_values.specs.Data.{«struct», tagged, Data};
 ghost use Rattle.someip_payload_values.specs.View.{form, forms, one_member, all_variants, all_members, labels_of, data_of, data_of_all, slot_of, slots_of};
-ghost use Rattle.someip_payload.specs.ValueReading.{IsTextOfValue};
-ghost use Rattle.someip_payload.specs.ReadValues.{GivesValue, value_of_text, value_in, members_in, variant_in, slots_in, elements_in, list_in, union_in, chosen_in, slot_in, skip_name, comma_at, enum_in, IsFaultAlso, IsPlaceWithin, IsReadAsValue};
+ghost use Rattle.someip_payload.specs.ValueReading.{IsTextOfValue, IsPlaceWithin, IsReadAsValue};
+ghost use Rattle.someip_payload.specs.ReadValues.{GivesValue, value_of_text, value_in, members_in, variant_in, slots_in, elements_in, list_in, union_in, chosen_in, slot_in, skip_name, comma_at, enum_in, IsFaultAlso};
 
 use crate::text_parts::common_len;
-use crate::value_faults::after_numbers;
+use crate::value_faults::after_kinds;
 use crate::value_floats::{double, single};
 use crate::value_strings::string;
 use crate::value_text_error::ValueTextError;
@@ -30,7 +30,7 @@ use std::alloc::Global;
 /// [`encode`](crate::encode) to say.
 ///
 /// A fault's place is that of the first byte at which no text of a value of the shape goes on, which is the length
-/// of a text that ends too early. The number of a variant that there is not is told at its first byte.
+/// of a text that ends too early.
 #[tactic(auto, using(crate::proofs::ValueWhole::whole_found, crate::proofs::ValueEach::read_only))]
 pub fn read_value(alloc: Global, shape: &Shape, text: &str) -> Result<Value, ValueTextError>
     ensures found { IfOk result (λ value. IsTextOfValue (form shape.now) (data_of value) text.now) }
@@ -247,29 +247,29 @@ fn union<'a>(alloc: Global, variants: &[(u32, Shape)], text: &'a [u8]) -> Read<'
         return Ok((Value::Union(None), rest));
     }
     match number_of(token) {
-        Some(kind) => variant(alloc, variants, kind, rest, text.len()),
-        None => Err(after_numbers(text, token)),
+        Some(kind) => variant(alloc, variants, kind, rest, text),
+        None => Err(after_kinds(variants, text)),
     }
 }
 
-/// The variant of a number, at which so many bytes were left.
+/// The variant of a number, with what is left behind it, and all from the number on.
 #[cycle(read)]
 #[tactic(auto, unfolding(crate::specs::ReadValues::variant_in))]
 fn variant<'a>(
     alloc: Global,
     variants: &[(u32, Shape)],
     kind: u64,
-    text: &'a [u8],
-    left: usize,
+    rest: &'a [u8],
+    text: &[u8],
 ) -> Read<'a, Value>
-    ensures { GivesValue (λ x. (data_of x.0, x.1.now)) result (variant_in (all_variants variants.now) kind text.now) }
+    ensures { GivesValue (λ x. (data_of x.0, x.1.now)) result (variant_in (all_variants variants.now) kind rest.now) }
 {
     for variant in variants {
         if u64::from(variant.0) == kind {
-            return chosen(alloc, variant.0, &variant.1, text);
+            return chosen(alloc, variant.0, &variant.1, rest);
         }
     }
-    Err(ValueTextError::BadValue(left))
+    Err(after_kinds(variants, text))
 }
 
 /// The value of a variant.

@@ -2,7 +2,8 @@
 
 ghost use Rattle.std.specs.Prelude.{◌≡◌, length, map, string_bytes};
 ghost use Rattle.someip_payload_values.specs.View.{data_of};
-ghost use Rattle.someip_payload.specs.ReadValues.{GivesValue, string_in, unquoted, byte_in, byte_of, escape_in, is_control, as_text};
+ghost use Rattle.someip_payload.specs.ReadValues.{GivesValue, string_in, unquoted, byte_in, byte_of, escape_in, as_text};
+ghost use Rattle.someip_payload.specs.ValueReading.{is_control};
 
 use crate::text_parts::common_len;
 use crate::value_faults::behind;

@@ -5,9 +5,10 @@
 
 ghost use Rattle.std.specs.Prelude.{◌≡◌, ◌≤◌, length, take, drop, option_map};
 ghost use Rattle.someip_payload_values.specs.View.{labels_of, data_of};
-ghost use Rattle.someip_payload.specs.ReadValues.{GivesValue, is_plain, token, past_token, after, atom_in, truth_of, number_of, signed_of, below_zero, labelled, begins_word, unsigned_by, signed_by, unsigned_of, integer_of};
+ghost use Rattle.someip_payload.specs.ReadValues.{GivesValue, token, past_token, after, atom_in, truth_of, number_of, signed_of, below_zero, unsigned_by, signed_by, unsigned_of, integer_of};
+ghost use Rattle.someip_payload.specs.ValueReading.{is_plain, labelled, begins_word};
 
-use crate::value_faults::{after_names, after_numbers, after_words};
+use crate::value_faults::{after_names, after_words};
 use crate::value_text_error::ValueTextError;
 use someip_payload_codec::Value;
 
@@ -140,7 +141,7 @@ fn begins_word(token: &[u8]) -> bool
 }
 
 /// The value that has this name, the first one if there are several.
-#[tactic(auto, unfolding(crate::specs::ReadValues::labelled))]
+#[tactic(auto, unfolding(crate::specs::ValueReading::labelled))]
 fn labelled(labels: &[(i128, String)], token: &[u8]) -> Option<i128>
     ensures { result ≡ labelled (labels_of labels.now) token.now }
 {

@@ -447,4 +447,5 @@ fn laws_hold(_rt: HostRuntime) {
     laws::what_is_written_is_spelled_so();
     laws::a_value_takes_a_byte();
     laws::a_text_says_one_float();
+    laws::printed_values_read_back();
 }

@@ -1,6 +1,6 @@
-use Rattle.std.proofs.Common.{◌≡◌, take}
-use Rattle.someip_payload_values.specs.View.{labels_of}
+use Rattle.std.proofs.Common.{◌≡◌, map, take}
+use Rattle.someip_payload.specs.ShapeText.{one_label}
 use Rattle.someip_payload.proofs.copies.copy_labels.Given as goal
 
-abbrev pub invariant-loop-value : goal.invariant-loop-value
-invariant-loop-value l = labels_of l.copies.items ≡ labels_of (take l.value-index l.labels)
+abbrev pub invariant-loop-label : goal.invariant-loop-label
+invariant-loop-label l = map one_label l.copies.items ≡ map one_label (take l.label-index l.labels)

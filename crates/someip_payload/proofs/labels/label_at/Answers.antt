@@ -33,7 +33,7 @@ returns-clause-found c =
     let behind : c.args.at ≤ c.in_ok-value.behind = omega (arith, c.in_ok-value.ensures.end.0) in
     let more : c.in_ok-value.behind ≤ c.in_ok-first.first = omega arith in
     let rest : c.in_ok-first.first ≤ c.name_end-end.result = omega arith in
-    let name : string_bytes c.in_ok-name.name ≡ slice_range c.args.text.now c.in_ok-first.first c.name_end-end.result = c.in_ok-name.ensures in
+    let name : string_bytes c.in_ok-name.name ≡ slice_range c.args.text.now c.in_ok-first.first c.name_end-end.result = c.in_ok-name.ensures.ok ∙ c.name_str.ensures in
     let piece : slice_range c.args.text.now c.args.at c.name_end-end.result ≡ value_text c.in_ok-value.value ++ (codes "=" ++ string_bytes c.in_ok-name.name) =
     rw (
       ← slice_range-append c.args.text.now c.args.at c.in_ok-value.behind c.name_end-end.result behind (omega arith),
@@ -70,7 +70,7 @@ returns-clause-only c = λ l front rest is own stops.
     let name = behind_piece c.args.text.now (codes "=") (l.1 ++ rest) c.in_ok-value.behind c.in_ok-first.first equals c.in_ok-first.ensures.end.0 in
     let end : c.name_end-end.result ≡ c.in_ok-first.first + length l.1 = c.name_end-end.ensures.only l.1 rest name own.1 stops in
     let len : length l.1 ≡ c.name_end-end.result - c.in_ok-first.first = omega (arith, end) in
-    let bytes : string_bytes c.in_ok-name.name ≡ slice_range c.args.text.now c.in_ok-first.first c.name_end-end.result = c.in_ok-name.ensures in
+    let bytes : string_bytes c.in_ok-name.name ≡ slice_range c.args.text.now c.in_ok-first.first c.name_end-end.result = c.in_ok-name.ensures.ok ∙ c.name_str.ensures in
     let whole : string_bytes c.in_ok-name.name ≡ l.1 = bytes ∙ ap (take (c.name_end-end.result - c.in_ok-first.first)) name ∙ take_at l.1 rest (c.name_end-end.result - c.in_ok-first.first) len in
     let value : c.in_ok-value.value ≡ l.0 = same_first _ _ _ _ read in
     (λ i. ((value_again c.in_ok-value.value c.in_ok-value.ensures.fits ∙ value) i, whole i), omega (arith, end, c.in_ok-first.ensures.end.0, place, ap length own.2, length-append (value_text l.0) (61 ∷ l.1)))

@@ -15,4 +15,4 @@ abbrev pub invariant-slots-loop-i : goal.invariant-slots-loop-i
 invariant-slots-loop-i l = slots_after (map slot_of l.slots.items) (slots_in l.i (all_members (drop l.i l.members)) l.left) ≡ slots_in 0 (all_members l.members) l.text
 
 abbrev pub invariant-variant-loop-variant : goal.invariant-variant-loop-variant
-invariant-variant-loop-variant l = variant_in (all_variants (drop l.variant-index l.variants)) l.kind l.text ≡ variant_in (all_variants l.variants) l.kind l.text
+invariant-variant-loop-variant l = variant_in (all_variants (drop l.variant-index l.variants)) l.kind l.rest ≡ variant_in (all_variants l.variants) l.kind l.rest

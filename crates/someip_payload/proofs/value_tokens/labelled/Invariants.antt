@@ -1,6 +1,6 @@
 use Rattle.std.proofs.Common.{◌≡◌, drop}
 use Rattle.someip_payload_values.specs.View.{labels_of}
-use Rattle.someip_payload.specs.ReadValues.{labelled}
+use Rattle.someip_payload.specs.ValueReading.{labelled}
 use Rattle.someip_payload.proofs.value_tokens.labelled.Given as goal
 
 abbrev pub invariant-loop-label : goal.invariant-loop-label
