@@ -1,8 +1,7 @@
 -- From what was read and written to what `show` promises.
-use Rattle.std.proofs.Common.{◌≡◌, ℕ, List, [], ◌∷◌, ◌++◌, map, Option, Some, Vec, Global, refl, sym, subst, ap, ◌∙◌, inr}
+use Rattle.std.proofs.Common.{◌≡◌, ℕ, List, [], ◌∷◌, map, Option, Some, Vec, Global, refl, sym, subst, ap, ◌∙◌, inr}
 use Rattle.someipctl_show.specs.Capture.{captured_datagrams}
 use Rattle.someipctl_io.specs.Faults.{fault_of_print}
-use Rattle.someipctl_io.specs.Sending.{Stops}
 use Rattle.someipctl_io.specs.declared.fault.PrintFault.{PrintFault}
 use Rattle.someipctl_io.specs.declared.fault.PrintFault.TheVariants as prints
 use Rattle.someipctl_show.specs.ShownText.{ComesWith, IsShownText}

@@ -1,5 +1,5 @@
 -- Each value has a text that says it, and so what is printed of a capture has one too.
-use Rattle.std.proofs.Common.{◌≡◌, ℕ, ◌+◌, List, [], ◌∷◌, ◌++◌, length, Option, Some, None, Result, Ok, Err, refl}
+use Rattle.std.proofs.Common.{ℕ, ◌+◌, List, [], ◌∷◌, ◌++◌, length, Option, Some, None, Result, Ok, Err, refl}
 use Rattle.someip_wire.specs.declared.WireError.{WireError}
 use Rattle.someip_wire.specs.Spelling.{MessageValue}
 use Rattle.someip_wire.specs.Reading.{items_of}

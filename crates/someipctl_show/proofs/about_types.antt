@@ -1,6 +1,13 @@
 pub mod PlaceLemmas
 pub mod IndexLemmas
 pub mod UnknownLemmas
+pub mod ReferenceLemmas
+pub mod LinkLemmas
+pub mod NameLemmas
+pub mod JudgingLemmas
+pub mod WayLemmas
+pub mod TextLemmas
+pub mod AlikeLemmas
 pub mod TableLemmas
 pub mod FaultLemmas
 pub mod ReadLemmas

@@ -5,7 +5,10 @@ pub mod Views
 pub mod GoodTypes
 pub mod Keys
 pub mod Tables
+pub mod References
+pub mod Names
 pub mod Says
 pub mod Faults
+pub mod Judging
 pub mod TypesInput
 pub mod Examples

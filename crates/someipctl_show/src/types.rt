@@ -1,6 +1,7 @@
 //! What payloads of messages are read by: a types file names, for messages of a service, a method or
 //! event and a type, the shape that their payload has. With it the line of the value of a message is
-//! made, which `someipctl show` and `recording` print after the line of the message.
+//! made, which `someipctl show` and `recording` print after the line of the message. Its shapes may use names,
+//! which the file gives to shapes as well.
 //!
 //! - [`MessageTypes`]: a types file; its line of the value of a message;
 //! - [`TypesError`]: why a text is no types file, and where; [`KeyError`]: why a part of it says nothing;
@@ -14,7 +15,9 @@ mod keys;
 pub mod laws;
 mod message_key;
 mod message_types;
+mod names;
 mod reading;
+mod references;
 mod tables;
 mod typed_message;
 mod unknown;

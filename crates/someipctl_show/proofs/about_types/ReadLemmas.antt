@@ -7,12 +7,13 @@ use Rattle.toml.specs.Data.{Data, get, as_str}
 use Rattle.someip_wire.specs.declared.header.MessageType.{MessageType}
 use Rattle.someip_wire.specs.declared.header.MessageType.TheVariants.{Request, RequestNoReturn, Notification, Response, Error}
 use Rattle.someip_wire.specs.Kinds.{has_tp_flag}
+use Rattle.someip_payload.specs.Named.{NamedForms}
 use Rattle.someipctl_show.specs.declared.types.error.TypesError.{TypesError}
 use Rattle.someipctl_show.specs.declared.types.error.TypesError.TheVariants as errors
 use Rattle.someipctl_show.specs.types.GoodTypes.{is_label, has_label, IsGoodTable}
 use Rattle.someipctl_show.specs.types.Keys.{text_at, kind_of_word, checked_label, label_of}
 use Rattle.someipctl_show.specs.types.Faults.{HasFault, TextHasFault}
-use Rattle.someipctl_show.specs.types.Says.{SaysTable, SaysEach}
+use Rattle.someipctl_show.specs.types.Says.{SaysTable, SaysEach, left_after}
 use Rattle.someipctl_show.specs.types.Types.{TypedMessageValue, TypesValue}
 
 -- ---- what is read is good
@@ -50,14 +51,14 @@ found_label : (found : Option Data) (name : Option (List ℕ)) → label_of foun
 found_label None name h = let none : Option (List ℕ) = None in let same : none ≡ name = cc in subst (λ (x : Option (List ℕ)). has_label x ≡ true) same refl
 found_label (Some d) name h = text_checked (as_str d) name h
 
-good_table : (d : Data) (t : TypedMessageValue) → SaysTable d t → IsGoodTable t
-good_table d t h = record { kind = found_kind (text_at (codes "type") d) t.kind h.kind; form = h.form.2.1; name = found_label (get (codes "name") d) t.name h.name }
+good_table : (names : NamedForms) (left : ℕ) (d : Data) (t : TypedMessageValue) → SaysTable names left d t → IsGoodTable t
+good_table names left d t h = record { kind = found_kind (text_at (codes "type") d) t.kind h.kind; form = h.form.2.good; name = found_label (get (codes "name") d) t.name h.name }
 
-pub good_tables : (ds : List Data) (types : TypesValue) → SaysEach ds types → All IsGoodTable types
-good_tables [] [] h = All-nil IsGoodTable
-good_tables [] (t ∷ types) h = absurd h
-good_tables (d ∷ ds) [] h = absurd h
-good_tables (d ∷ ds) (t ∷ types) h = All-cons IsGoodTable t types (good_table d t h.0) (good_tables ds types h.1)
+pub good_tables : (names : NamedForms) (left : ℕ) (ds : List Data) (types : TypesValue) → SaysEach names left ds types → All IsGoodTable types
+good_tables names left [] [] h = All-nil IsGoodTable
+good_tables names left [] (t ∷ types) h = absurd h
+good_tables names left (d ∷ ds) [] h = absurd h
+good_tables names left (d ∷ ds) (t ∷ types) h = All-cons IsGoodTable t types (good_table names left d t h.0) (good_tables names (left_after names left d) ds types h.1)
 
 -- ---- faults
 
@@ -66,5 +67,7 @@ pub text_fault : {A : Type 0} (tree : Option Data) (d : Data) (r : Result A Type
 text_fault tree d (Ok x) is h = tt
 text_fault tree d (Err errors.NotToml) is h = absurd h
 text_fault tree d (Err (errors.File e)) is h = rw is h
+text_fault tree d (Err (errors.Types e)) is h = rw is h
+text_fault tree d (Err (errors.Named n e)) is h = rw is h
 text_fault tree d (Err (errors.Message n e)) is h = rw is h
 text_fault tree d (Err errors.OutOfMemory) is h = tt

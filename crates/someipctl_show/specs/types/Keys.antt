@@ -5,7 +5,7 @@ use Rattle.toml.specs.Data.{Data, get, as_integer, as_str}
 use Rattle.someip_wire.specs.declared.header.MessageType.{MessageType}
 use Rattle.someip_wire.specs.declared.header.MessageType.TheVariants.{Request, RequestNoReturn, Notification, Response, Error}
 use Rattle.someipctl_show.specs.declared.types.key_error.KeyError.{KeyError}
-use Rattle.someipctl_show.specs.declared.types.key_error.KeyError.TheVariants.{Missing, WrongKind, OutOfRange, BadText, BadShape, OutOfMemory}
+use Rattle.someipctl_show.specs.declared.types.key_error.KeyError.TheVariants.{Missing, WrongKind, OutOfRange, BadText, BadShape, Unknown, TooMany, OutOfMemory}
 use Rattle.someipctl_show.specs.types.GoodTypes.{is_label}
 
 -- what is asked of what was found, if anything was
@@ -13,13 +13,16 @@ infixl 10 ◌>>=◌
 abbrev pub ◌>>=◌ : {A B : Type 0} → Option A → (A → Option B) → Option B
 o >>= f = option_and_then f o
 
--- an error tells of a key at which this holds; a bad text and a bad shape tell of `shape`
+-- an error tells of a key at which this holds; a bad text, a bad shape, a name that is unknown and too many shapes tell of
+-- `shape`
 abbrev pub FailsBy : (List ℕ → Type 0) → KeyError → Type 0
 FailsBy Fails (Missing key) = Fails key.now
 FailsBy Fails (WrongKind key) = Fails key.now
 FailsBy Fails (OutOfRange key) = Fails key.now
 FailsBy Fails (BadText place) = Fails (codes "shape")
 FailsBy Fails BadShape = Fails (codes "shape")
+FailsBy Fails (Unknown name) = Fails (codes "shape")
+FailsBy Fails TooMany = Fails (codes "shape")
 FailsBy Fails error = ⊥
 
 -- so it does, or memory ran out

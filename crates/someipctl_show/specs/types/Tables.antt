@@ -35,7 +35,7 @@ message_tables tree = tables_of (get (codes "message") tree)
 
 -- the keys that the file may have, and those of a table
 abbrev pub file_keys : List (List ℕ)
-file_keys = codes "message" ∷ []
+file_keys = codes "message" ∷ codes "types" ∷ []
 
 abbrev pub table_keys : List (List ℕ)
 table_keys = codes "service" ∷ codes "method" ∷ codes "type" ∷ codes "shape" ∷ codes "name" ∷ []

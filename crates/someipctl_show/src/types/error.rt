@@ -15,6 +15,12 @@ pub enum TypesError {
     /// The file itself says nothing.
     #[error("{0}")]
     File(KeyError),
+    /// The table of names, `types`, says nothing.
+    #[error("types: {0}")]
+    Types(KeyError),
+    /// The text of this name in `types` says nothing.
+    #[error("types {0}: {1}")]
+    Named(String, KeyError),
     /// The table with this number in `message`, counted from 1, says nothing.
     #[error("message {0}: {1}")]
     Message(usize, KeyError),

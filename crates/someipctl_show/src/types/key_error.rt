@@ -24,6 +24,15 @@ pub enum KeyError {
     /// Payloads cannot have the shape at `shape`.
     #[error("BadShape shape")]
     BadShape,
+    /// The text refers to this name, which stands for no shape.
+    #[error("Unknown @{0}")]
+    Unknown(String),
+    /// The text refers to this name, whose text leads back to it.
+    #[error("Cycle @{0}")]
+    Cycle(String),
+    /// More shapes would be written out for names than may be in a file.
+    #[error("TooMany")]
+    TooMany,
     /// A key that the format does not have.
     #[error("UnknownKey {0}")]
     UnknownKey(String),

@@ -1,17 +1,21 @@
 //! The values at the keys of a table.
-ghost use Rattle.std.specs.Prelude.{◌≡◌, ◌≢◌, Ok, codes, IfOk, IfErr, OnOk, string_bytes};
+ghost use Rattle.std.specs.Prelude.{◌≡◌, ◌-◌, ◌≤◌, Ok, codes, IfOk, IfErr, OnOk, string_bytes};
 ghost use Rattle.std.specs.List.{list_all};
 ghost use Rattle.std.specs.Option.{option_map};
 ghost use Rattle.toml.specs.View.{view};
 ghost use Rattle.someip_payload_values.specs.Check.{checked};
 ghost use Rattle.someip_payload_values.specs.View.{form};
 ghost use Rattle.someipctl_show.specs.types.GoodTypes.{is_label, is_visible};
-ghost use Rattle.someipctl_show.specs.types.Keys.{IsAsFound, IsAsSaid, TellsAt, id_at, id_of, text_at, kind_at, kind_of_word, label_at};
-ghost use Rattle.someipctl_show.specs.types.Faults.{NoForm};
-ghost use Rattle.someipctl_show.specs.types.Says.{IsShapeText, SaysForm};
+ghost use Rattle.someipctl_show.specs.types.Keys.{IsAsFound, IsAsSaid, id_at, id_of, text_at, kind_at, kind_of_word, label_at};
+ghost use Rattle.someipctl_show.specs.types.Faults.{NoForm, ShapeTold, TextTold};
+ghost use Rattle.someipctl_show.specs.types.Judging.{RefusesForm};
+ghost use Rattle.someipctl_show.specs.types.Says.{IsShapeText, SaysForm, left_after};
+ghost use Rattle.someipctl_show.specs.types.Names.{most_written};
+ghost use Rattle.someipctl_show.specs.types.References.{written_out};
 
 use crate::types::key_error::KeyError;
-use someip_payload::{PayloadError, Shape, ShapeTextError, check_shape, read_shape};
+use crate::types::references::read_in;
+use someip_payload::{NamedShapes, PayloadError, Shape, check_shape};
 use someip_wire::MessageType;
 use std::alloc::Global;
 use toml::Value;
@@ -76,28 +80,44 @@ fn kind_of_word(word: &str) -> Option<MessageType>
     }
 }
 
-/// The shape whose text stands at the key `shape`.
-pub(crate) fn shape_at(alloc: Global, table: &Value) -> Result<Shape, KeyError>
-    ensures { IsAsSaid form result (SaysForm (view table.now)) (NoForm (SaysForm (view table.now))) }
+/// The shape whose text stands at the key `shape`, where so many shapes may be written out for names, and how
+/// many may be after it.
+pub(crate) fn shape_at(
+    alloc: Global,
+    names: &NamedShapes,
+    left: u64,
+    table: &Value,
+) -> Result<(Shape, u64), KeyError>
+    requires { left ≤ most_written }
+    ensures said { IsAsSaid (λ x. form x.0) result (SaysForm names.now left (view table.now))
+        (NoForm (SaysForm names.now left (view table.now))) }
+    ensures left { IfOk result (λ x. x.1 ≡ left_after names.now left (view table.now)) }
+    ensures told { IfErr result (ShapeTold names.now left (view table.now)) }
 {
-    shape_of(alloc, text_at(table, "shape")?)
+    shape_of(alloc, names, left, text_at(table, "shape")?)
 }
 
-/// The shape of a text, if payloads can have it.
-fn shape_of(alloc: Global, text: &str) -> Result<Shape, KeyError>
-    ensures { IsAsSaid form result (IsShapeText text.now) (NoForm (IsShapeText text.now)) }
+/// The shape of a text, if payloads can have it, and how many shapes may still be written out.
+fn shape_of(
+    alloc: Global,
+    names: &NamedShapes,
+    left: u64,
+    text: &str,
+) -> Result<(Shape, u64), KeyError>
+    requires { left ≤ most_written }
+    ensures said { IsAsSaid (λ x. form x.0) result (IsShapeText names.now left text.now)
+        (NoForm (IsShapeText names.now left text.now)) }
+    ensures left { IfOk result (λ x. x.1 ≡ left - written_out names.now text.now) }
+    ensures told { IfErr result (TextTold names.now left text.now) }
 {
-    match read_shape(alloc, text) {
-        Ok(shape) => accepted(alloc, shape),
-        Err(ShapeTextError::BadShape(place)) => Err(KeyError::BadText(place)),
-        Err(ShapeTextError::OutOfMemory) => Err(KeyError::OutOfMemory),
-    }
+    let (shape, rest) = read_in(alloc, names, left, text)?;
+    Ok((accepted(alloc, shape)?, rest))
 }
 
 /// A shape, if payloads can have it.
 fn accepted(alloc: Global, shape: Shape) -> Result<Shape, KeyError>
     ensures ok { IfOk result (λ s. (s ≡ shape) × (checked (form shape) ≡ Ok tt)) }
-    ensures err { IfErr result (TellsAt (λ k. (k ≡ codes "shape") × (checked (form shape) ≢ Ok tt))) }
+    ensures err { IfErr result (RefusesForm (form shape)) }
 {
     refuse_shape(alloc, &shape)?;
     Ok(shape)
@@ -106,7 +126,7 @@ fn accepted(alloc: Global, shape: Shape) -> Result<Shape, KeyError>
 /// Refuses a shape that payloads cannot have.
 fn refuse_shape(alloc: Global, shape: &Shape) -> Result<(), KeyError>
     ensures ok { OnOk result (checked (form shape.now) ≡ Ok tt) }
-    ensures err { IfErr result (TellsAt (λ k. (k ≡ codes "shape") × (checked (form shape.now) ≢ Ok tt))) }
+    ensures err { IfErr result (RefusesForm (form shape.now)) }
 {
     match check_shape(alloc, shape) {
         Ok(()) => Ok(()),

@@ -1,11 +1,16 @@
 //! Laws of the definitions behind the contracts. Each is the contract of a function that does
 //! nothing.
-ghost use Rattle.std.specs.Prelude.{◌≡◌, true, false, codes, [], ◌∷◌, Some, None};
+ghost use Rattle.std.specs.Prelude.{◌≡◌, ℕ, List, true, false, codes, [], ◌∷◌, Some, None};
 ghost use Rattle.toml.specs.Data.{Data};
 ghost use Rattle.someip_wire.specs.declared.header.MessageType.TheVariants.{Notification, Request, TpNotification};
 ghost use Rattle.someipctl_show.specs.types.Examples.{IsOnlyLine, float_types, speed_of, speed_types, named_types, message_with, event_with, keyed, file_with, speed_text, line};
 ghost use Rattle.someipctl_show.specs.types.GoodTypes.{has_clash, is_label};
-ghost use Rattle.someipctl_show.specs.types.Keys.{kind_of_word};
+ghost use Rattle.someip_payload_values.specs.Data.{Form};
+ghost use Rattle.someip_payload.specs.Named.{NamedForms};
+ghost use Rattle.someip_payload.specs.ShapeText.{IsTextIn};
+ghost use Rattle.someipctl_show.specs.types.Keys.{kind_of_word, text_at};
+ghost use Rattle.someipctl_show.specs.types.Names.{Leads, StandsFor};
+ghost use Rattle.someipctl_show.specs.types.References.{Agrees, IsOneOf, KnowsAll, references};
 ghost use Rattle.someipctl_show.specs.types.Says.{TextSays, tree_of};
 ghost use Rattle.someipctl_show.specs.types.Tables.{has_unknown_key};
 ghost use Rattle.someipctl_show.specs.types.Types.{TypesValue};
@@ -79,4 +84,22 @@ pub fn what_texts_say()
     ensures empty { TextSays [] [] }
     ensures key { (types : TypesValue) → TextSays (speed_text (line (codes "names = 1"))) types → ⊥ }
     ensures toml { tree_of (codes "message=") ≡ None }
+{}
+
+/// What a text says over names depends on those that it refers to alone, and each of these stands for a form.
+pub fn what_texts_refer_to()
+    ensures agree { (a b : NamedForms) (f : Form) (text : List ℕ) → IsTextIn a f text → Agrees a b (references text)
+        → IsTextIn b f text }
+    ensures known { (names : NamedForms) (f : Form) (text : List ℕ) → IsTextIn names f text
+        → KnowsAll names (references text) }
+    ensures longest { references (codes "struct(@speed,limit:@speed_2)") ≡ codes "speed" ∷ (codes "speed_2" ∷ []) }
+    ensures unnamed { references (codes "struct(@,@1)") ≡ [] }
+{}
+
+/// A name that leads back to itself stands for nothing, and neither does one that refers to such a name.
+pub fn what_stands_for_nothing()
+    ensures cycle { (types : Data) (name : List ℕ) (f : Form) (text m : List ℕ) → StandsFor types name f
+        → text_at name types ≡ Some text → IsOneOf m (references text) → Leads types m name → ⊥ }
+    ensures refers { (types : Data) (name text m : List ℕ) (f : Form) → StandsFor types name f
+        → text_at name types ≡ Some text → IsOneOf m (references text) → (g : Form) × StandsFor types m g }
 {}

@@ -13,6 +13,7 @@ ghost use Rattle.someipctl_show.specs.types.Views.{typed_view};
 use crate::types::error::TypesError;
 use crate::types::index::index_of;
 use crate::types::message_key::{MessageKey, key_by};
+use crate::types::names::names_in;
 use crate::types::tables::{message_tables, typed_messages};
 use crate::types::typed_message::TypedMessage;
 use crate::types::unknown::refuse_unknown;
@@ -52,8 +53,9 @@ fn types_in(alloc: Global, tree: &Value) -> Result<MessageTypes, TypesError>
     ensures only { (types : TypesValue) → SaysTypes (view tree.now) types → IsReadUnlessMemory types result }
     ensures fault { IfErr result (HasFault (view tree.now)) }
 {
+    let names = names_in(alloc, tree)?;
     let listed = message_tables(tree)?;
-    let tables = typed_messages(alloc, listed)?;
+    let tables = typed_messages(alloc, &names, listed)?;
     refuse_unknown(alloc, tree, listed)?;
     let places = index_of(alloc, &tables)?;
     Ok(MessageTypes { tables, places })
@@ -70,14 +72,17 @@ impl MessageTypes {
         }
     }
 
-    /// What a text says.
+    /// What a text says. The names in `types` stand for shapes.
     ///
     /// ```text
+    /// [types]
+    /// gear = "u8{0=P,3=D}"
+    ///
     /// [[message]]
     /// service = 0x1234
     /// method = 0x8001
     /// type = "NOTIFICATION"
-    /// shape = "struct(u16,u8)"
+    /// shape = "struct(u16,@gear)"
     /// name = "speed"
     /// ```
     pub fn read(alloc: Global, text: &str) -> Result<MessageTypes, TypesError>

@@ -1,19 +1,22 @@
 //! The tables of a types file.
 //!
 //! What clashes is told last, after unknown keys: two tables are compared once each of them is good.
-ghost use Rattle.std.specs.Prelude.{◌≡◌, Some, None, map, option_map, IfOk, IfErr, OnErr};
+ghost use Rattle.std.specs.Prelude.{◌≡◌, ◌≤◌, Some, None, map, option_map, IfOk, IfErr, OnErr};
 ghost use Rattle.std.specs.List.{list_all};
 ghost use Rattle.toml.specs.View.{view};
-ghost use Rattle.someipctl_show.specs.types.Faults.{FailsAt, FirstFails, HasFault, TellsTable, in_message};
+ghost use Rattle.someipctl_show.specs.types.Faults.{FailsAt, FirstFails, HasFault, ShapeTold, TellsTable, in_message};
 ghost use Rattle.someipctl_show.specs.types.Keys.{IsAsSaid, IsOnly};
-ghost use Rattle.someipctl_show.specs.types.Says.{SaysEach, SaysTable};
+ghost use Rattle.someipctl_show.specs.types.Says.{SaysEach, SaysTable, left_after};
+ghost use Rattle.someipctl_show.specs.types.Names.{most_written};
 ghost use Rattle.someipctl_show.specs.types.Tables.{as_list, is_table, message_tables};
 ghost use Rattle.someipctl_show.specs.types.Views.{typed_view, types_view};
 
 use crate::types::error::TypesError;
 use crate::types::key_error::KeyError;
 use crate::types::keys::{id_at, kind_at, label_at, shape_at};
+use crate::types::names::Names;
 use crate::types::typed_message::TypedMessage;
+use someip_payload::NamedShapes;
 use std::alloc::Global;
 use toml::Value;
 
@@ -56,18 +59,25 @@ fn is_each_table(list: &[Value]) -> bool
     list.iter().all(|v| v.is_table())
 }
 
-/// What tables say, in their order.
+/// What tables say, in their order, by what names stand for.
 pub(crate) fn typed_messages(
     alloc: Global,
+    names: &Names,
     tables: &[Value],
 ) -> Result<Vec<TypedMessage>, TypesError>
-    ensures ok { IfOk result (λ v. IsOnly (SaysEach (map view tables.now)) (types_view v.items)) }
-    ensures err { IfErr result (TellsTable (FirstFails (map view tables.now))) }
+    requires { names.now.left ≤ most_written }
+    ensures ok { IfOk result (λ v. IsOnly (SaysEach names.now.shapes names.now.left (map view tables.now))
+        (types_view v.items)) }
+    ensures err { IfErr result (TellsTable (FirstFails names.now.shapes names.now.left (map view tables.now))) }
 {
     let mut messages = Vec::new(alloc);
+    let mut left = names.left;
     for (i, table) in tables.iter().enumerate() {
-        match typed_message(alloc, table) {
-            Ok(message) => messages.push(message)?,
+        match typed_message(alloc, &names.shapes, left, table) {
+            Ok((message, rest)) => {
+                messages.push(message)?;
+                left = rest;
+            }
             Err(error) => return Err(in_message(i + 1, error)),
         }
     }
@@ -84,20 +94,30 @@ fn in_message(number: usize, error: KeyError) -> TypesError
     }
 }
 
-/// What a table says.
-fn typed_message(alloc: Global, table: &Value) -> Result<TypedMessage, KeyError>
-    ensures { IsAsSaid typed_view result (SaysTable (view table.now)) (FailsAt (view table.now)) }
+/// What a table says, where so many shapes may be written out for names, and how many may be after it.
+fn typed_message(
+    alloc: Global,
+    names: &NamedShapes,
+    left: u64,
+    table: &Value,
+) -> Result<(TypedMessage, u64), KeyError>
+    requires { left ≤ most_written }
+    ensures said { IsAsSaid (λ x. typed_view x.0) result (SaysTable names.now left (view table.now))
+        (FailsAt names.now left (view table.now)) }
+    ensures left { IfOk result (λ x. x.1 ≡ left_after names.now left (view table.now)) }
+    ensures told { IfErr result (ShapeTold names.now left (view table.now)) }
 {
     let service = id_at(table, "service")?;
     let method = id_at(table, "method")?;
     let kind = kind_at(table)?;
-    let shape = shape_at(alloc, table)?;
+    let (shape, rest) = shape_at(alloc, names, left, table)?;
     let name = label_at(alloc, table)?;
-    Ok(TypedMessage {
+    let message = TypedMessage {
         service,
         method,
         kind,
         shape,
         name,
-    })
+    };
+    Ok((message, rest))
 }

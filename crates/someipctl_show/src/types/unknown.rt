@@ -1,10 +1,11 @@
 //! Keys that the format does not have.
-ghost use Rattle.std.specs.Prelude.{◌≡◌, false, Some, map, string_bytes, IfErr, OnOk};
+ghost use Rattle.std.specs.Prelude.{◌≡◌, false, List, Some, map, string_bytes, IfErr, OnOk};
 ghost use Rattle.std.specs.List.{list_any, find};
 ghost use Rattle.std.specs.Option.{option_map};
 ghost use Rattle.std.specs.BTreeMap.{keys};
+ghost use Rattle.toml.specs.Data.{Data};
 ghost use Rattle.toml.specs.View.{view};
-ghost use Rattle.someipctl_show.specs.types.Faults.{FirstHasUnknown, HasFault, IsUnknownAmong, IsUnknownIn, TellsTable};
+ghost use Rattle.someipctl_show.specs.types.Faults.{FirstHasUnknown, IsUnknownAmong, IsUnknownIn, TellsTable, TellsUnknown};
 ghost use Rattle.someipctl_show.specs.types.Tables.{file_keys, table_keys, is_unknown, has_unknown, has_unknown_key, message_tables, number_of};
 
 use crate::types::error::TypesError;
@@ -14,7 +15,7 @@ use std::alloc::Global;
 use toml::{Table, Value};
 
 /// The keys that the file may have.
-const FILE_KEYS: [&str; 1] = ["message"];
+const FILE_KEYS: [&str; 2] = ["message", "types"];
 
 /// The keys that a table of messages may have.
 const TABLE_KEYS: [&str; 5] = ["service", "method", "type", "shape", "name"];
@@ -73,7 +74,7 @@ fn number_of(tables: &[Value], key: &str) -> Option<usize>
 /// Refuses a file that has an unknown key.
 fn refuse_unknown_of_file(alloc: Global, tree: &Value) -> Result<(), TypesError>
     ensures ok { OnOk result (has_unknown file_keys (view tree.now) ≡ false) }
-    ensures err { IfErr result (HasFault (view tree.now)) }
+    ensures err { (ds : List Data) → IfErr result (TellsUnknown (view tree.now) ds) }
 {
     match first_unknown(tree, &FILE_KEYS) {
         Some(key) => {
@@ -107,7 +108,7 @@ pub(crate) fn refuse_unknown(
 ) -> Result<(), TypesError>
     requires { message_tables (view tree.now) ≡ Some (map view tables.now) }
     ensures ok { OnOk result (has_unknown_key (view tree.now) ≡ false) }
-    ensures err { IfErr result (HasFault (view tree.now)) }
+    ensures err { IfErr result (TellsUnknown (view tree.now) (map view tables.now)) }
 {
     refuse_unknown_of_file(alloc, tree)?;
     refuse_unknown_of_tables(alloc, tables)

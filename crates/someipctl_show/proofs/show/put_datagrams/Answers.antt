@@ -1,4 +1,4 @@
-use Rattle.std.proofs.Common.{◌≡◌, ◌≤◌, ◌+◌, [], length, ap, sym, subst, refl, ◌∙◌, drop, map, rules}
+use Rattle.std.proofs.Common.{◌≤◌, ◌+◌, [], length, ap, sym, subst, refl, ◌∙◌, drop, map, rules}
 use Rattle.someipctl_show.specs.Readings.{readings_in, readings_of}
 use Rattle.someip_wire.specs.Reading.{items_of}
 use Rattle.std.proofs.lemmas.List.{append_cancel_left}

@@ -1,8 +1,4 @@
-use Rattle.std.proofs.Common.{refl}
-use Rattle.std.proofs.lemmas.Result.{on_ok_weaker}
-use Rattle.std.specs.Prelude.{string_bytes}
 use Rattle.someip_wire.specs.View.{view_item}
-use Rattle.someipctl_io.specs.Items.{item_lines}
 use Rattle.someipctl_io.proofs.SendingLemmas.{OnErr-any}
 use Rattle.someipctl_show.specs.ShownText.{IsItemText}
 use Rattle.someipctl_show.proofs.KindLemmas.{stops_none}

@@ -1,4 +1,4 @@
-use Rattle.std.proofs.Common.{◌≡◌, ℕ, List, None, codes, ap, refl, sym, ◌∙◌, rules}
+use Rattle.std.proofs.Common.{◌≡◌, ℕ, List, None, codes, ap, refl, ◌∙◌, rules}
 use Rattle.std.proofs.lemmas.Float.Parse.{parse_float_on_literals}
 use Rattle.someip_payload_values.specs.Check.{checked}
 use lib.Ieee.{nan_bits, of_bits}

@@ -1,7 +1,5 @@
 use Rattle.std.proofs.Common.{◌≡◌, ℕ, List, ◌++◌, append_assoc, refl}
 use Rattle.std.specs.Prelude.{option_map, string_bytes}
-use Rattle.someip_payload_values.specs.View.{data_of, form}
-use Rattle.someip_payload_values.specs.ValueText.{data_text}
 use Rattle.someipctl_show.specs.types.ValueLine.{read_line}
 use Rattle.someipctl_show.proofs.types.value_line.put_read_line.Goals as goal
 
