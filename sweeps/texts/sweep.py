@@ -56,7 +56,7 @@ def is_setup(program, text, wanted):
 
 
 def is_types(program, data, wanted):
-    """A types file is refused; or where it has tables they tell the value of the request, and else none is told."""
+    """A types file is refused; or where it has tables they tell the request's value or its fault, and else none is told."""
     with tempfile.NamedTemporaryFile("w") as capture:
         capture.write(CAPTURE)
         capture.flush()
@@ -65,7 +65,8 @@ def is_types(program, data, wanted):
         return (status, shown, error) == (0, SHOWN, "")
     if wanted == "tables":
         value = shown.removeprefix(SHOWN)
-        return (status, error) == (0, "") and len(value) < len(shown) and value.startswith("1 value ")
+        is_fault = value.startswith("1 value fault ")
+        return (status, error) == (is_fault, "") and len(value) < len(shown) and value.startswith("1 value ")
     return (status, shown, error) == (1, "", f"types: {wanted}\n")
 
 
@@ -107,7 +108,7 @@ def is_printed(program, shape, text, can_be_written):
     whole = f"value {text}\nused {len(digits) // 2} of {len(digits) // 2}\n"
     return ((status, error) == (0, "") and run(program, ["payload", shape, digits]) == (0, whole, "")
             and encoded(program, shape, text + " ") == (1, "", f"bad value at {len(text.encode())}\n")
-            and all(is_refused_at_end(program, shape, front) for front in fronts_of(shape, text)))
+            and all(is_refused_at_end(program, shape, front) for front in fronts_of(text)))
 
 
 def is_of_whole_lines(text):

@@ -4,6 +4,7 @@
 HELP = (
     ("someipctl|help|vectors", "  passed 1 of 2\n"),
     ("someipctl|help|run", "      --expect <TRACE>  "),
+    ("someipctl|help|run", "      --begins <TRACE>  "),
     ("someipctl|help|run", "      --lines           "),
     ("someipctl|help|recording", "  someipctl recording --ports 30509 examples/one.pcap\n"),
     ("someipctl|help|chart", "Usage: someipctl chart <SETUP> <SCHEDULE>\n"),
@@ -39,6 +40,7 @@ HELP = (
 USAGE = (
     ("someipctl|vectors", "Usage: someipctl vectors <FILE>\n"),
     ("someipctl|vectors|x|y", "error: unexpected argument 'y' found\n"),
+    ("someipctl|run|--begins=x|y|z|--expect=x", "error: the argument '--expect <TRACE>' cannot be used with "),
     ("someipctl|run|--expect|x|y", "error: the following required arguments were not provided:\n"),
     ("someipctl|recording|--whole=1|x", "error: unexpected value '1' for '--whole' found"),
     ("someipctl|recording|--whole-slots|x", "error: the following required arguments were not provided:\n"),
@@ -93,7 +95,7 @@ BAD_SERVICES = ("x", "123", "12345", "1234.", "1234.042", "1234,", ",1234", "123
 SHOW = "Usage: someipctl show [OPTIONS] <CAPTURE>"
 # Files of which two cannot be read, and the first is told: a types file before a recording, a setup before a schedule.
 NAMED_FIRST = ("recording|--types|nowhere|missing", "show|--types|nowhere|missing", "run|nowhere|missing",
-               "run|--expect|missing|nowhere|missing", "chart|nowhere|missing")
+               "run|--expect|missing|nowhere|missing", "run|--begins|missing|nowhere|missing", "chart|nowhere|missing")
 # Commands for which `-` is the name of a file, which is not there, and not standard input.
 NAMED_DASH = ("show|-", "vectors|-", "run|-|missing", "chart|-|missing", "show|--types|-|missing",
               "recording|--types|-|missing", "run|--expect|missing|-|missing")

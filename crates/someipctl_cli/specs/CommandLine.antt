@@ -53,9 +53,9 @@ vectors_usage = (with_rule (new_app (codes "vectors")) (required (codes "file"))
 abbrev pub with_inputs : App → App
 with_inputs command = with_rule (with_rule command (required (codes "setup"))) (required (codes "schedule"))
 
--- `run [--expect TRACE] [--lines] SETUP SCHEDULE`
+-- `run [--expect TRACE] [--begins TRACE] [--lines] SETUP SCHEDULE`
 abbrev pub run_usage : Shape
-run_usage = (with_inputs (with_rule (with_rule (new_app (codes "run")) (valued (codes "expect"))) (flag (codes "lines")))).top
+run_usage = (with_inputs (with_rule (with_rule (with_rule (new_app (codes "run")) (valued (codes "expect"))) (valued (codes "begins"))) (flag (codes "lines")))).top
 
 -- the command with the options on messages that are put together
 abbrev pub with_whole : App → App
@@ -122,7 +122,7 @@ pub data Request : Type 0 where
   payload_request : Text → Text → Request
   encode_request : Text → Text → Request
   vectors_request : Text → Request
-  run_request : Text → Text → Option Text → Bool → Request
+  run_request : Text → Text → Option Text → Option Text → Bool → Request
   recording_request : Text → RecordingRequest → Request
   chart_request : Text → Text → Request
   audit_request : Text → AuditRequest → Request
@@ -151,7 +151,7 @@ asked_by_command (Show capture service types) = show_request capture.now (text_a
 asked_by_command (Payload shape hex) = payload_request shape.now hex.now
 asked_by_command (Encode shape value) = encode_request shape.now value.now
 asked_by_command (Vectors file) = vectors_request file.now
-asked_by_command (Run setup schedule expect lines) = run_request setup.now schedule.now (text_at expect) lines
+asked_by_command (Run setup schedule expect begins lines) = run_request setup.now schedule.now (text_at expect) (text_at begins) lines
 asked_by_command (Recording file options) = recording_request file.now (asked_by_options options)
 asked_by_command (Chart setup schedule) = chart_request setup.now schedule.now
 asked_by_command (Audit file options) = audit_request file.now (asked_by_audit_options options)
@@ -180,7 +180,7 @@ is_on (Some value) = bytes_eq value (codes "true")
 -- what `run` asks for
 abbrev pub asked_by_run : (Text → Option Text) → Option Request
 asked_by_run value =
-    option_and_then (λ setup. option_map (λ schedule. run_request setup schedule (value (codes "expect")) (is_on (value (codes "lines")))) (value (codes "schedule")))
+    option_and_then (λ setup. option_map (λ schedule. run_request setup schedule (value (codes "expect")) (value (codes "begins")) (is_on (value (codes "lines")))) (value (codes "schedule")))
     (value (codes "setup"))
 
 -- the options of `recording`, by what each matched

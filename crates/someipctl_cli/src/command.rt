@@ -55,6 +55,8 @@ pub enum Command<'w> {
         schedule: &'w str,
         /// The path of the trace that is expected, as it was given.
         expect: Option<&'w str>,
+        /// That of a file that the trace begins with.
+        begins: Option<&'w str>,
         /// Whether each line of the trace is to begin with the line of the schedule.
         lines: bool,
     },
@@ -242,6 +244,7 @@ fn run_matched<'w>(matches: &ArgMatches<'w>) -> Option<Command<'w>>
         setup,
         schedule,
         expect: matches.get_str("expect"),
+        begins: matches.get_str("begins"),
         lines: is_given(matches, "lines"),
     })
 }

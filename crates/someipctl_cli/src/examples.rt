@@ -104,7 +104,9 @@ difference is printed as
   expected LINE
   got LINE
   line N
-where N is the line of SCHEDULE by which the second LINE came, and - is what there is none of.";
+where N is the line of SCHEDULE by which the second LINE came, and - is what there is none of.
+With --begins, the text of TRACE may end before the trace does, also within a line, as the log of a
+node does that still runs.";
 
 /// Of `recording`.
 pub(crate) const RECORDING_EXAMPLE: &str = "\

@@ -70,6 +70,9 @@ pub enum Failure<'p> {
     /// Such a limit was given, and messages are not put together.
     #[error("error: limits of whole messages need '--whole'\n\nUsage: someipctl recording [OPTIONS] <FILE>")]
     LimitAlone,
+    /// Both a whole trace and the beginning of one are expected of a run.
+    #[error("error: the argument '--expect <TRACE>' cannot be used with '--begins <TRACE>'\n\nUsage: someipctl run [OPTIONS] <SETUP> <SCHEDULE>")]
+    ExpectAndBegins,
     /// The arguments are no call of the program.
     #[error("{0}")]
     Usage(clap::Error),
@@ -101,7 +104,8 @@ impl<'p> Failure<'p> {
             | Failure::BadServices(_, _)
             | Failure::BadLimits(_)
             | Failure::BadTimes(_)
-            | Failure::LimitAlone => 2,
+            | Failure::LimitAlone
+            | Failure::ExpectAndBegins => 2,
             Failure::OutOfMemory => 3,
             Failure::CannotRead(_) | Failure::CannotWrite => 4,
         }

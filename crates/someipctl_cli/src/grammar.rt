@@ -113,14 +113,21 @@ fn run_definition<'d>(alloc: Global) -> Result<clap::Command<'d>, AllocError>
         "TRACE",
         "Compares the trace with this file, and prints the first line that differs",
     );
+    let begins = valued_option(
+        alloc,
+        "begins",
+        "TRACE",
+        "Compares the beginning of the trace with this file likewise",
+    );
     let lines = flag(
         alloc,
         "lines",
         "Puts the line of the schedule before each line of the trace",
     );
     let first = taking(Ok(command), expect);
-    let second = taking(first, lines);
-    add_inputs(alloc, second)
+    let second = taking(first, begins);
+    let third = taking(second, lines);
+    add_inputs(alloc, third)
 }
 
 fn recording_definition<'d>(alloc: Global) -> Result<clap::Command<'d>, AllocError>

@@ -34,10 +34,13 @@ pub fn calls_by_example()
         ≡ Some (vectors_request (codes "x")) }
 
     ensures run { requested (line (codes "run" ∷ codes "x" ∷ codes "y" ∷ []))
-        ≡ Some (run_request (codes "x") (codes "y") None false) }
+        ≡ Some (run_request (codes "x") (codes "y") None None false) }
 
     ensures run_options { requested (line (codes "run" ∷ codes "--lines" ∷ codes "--expect" ∷ codes "t"
-        ∷ codes "x" ∷ codes "y" ∷ [])) ≡ Some (run_request (codes "x") (codes "y") (Some (codes "t")) true) }
+        ∷ codes "x" ∷ codes "y" ∷ [])) ≡ Some (run_request (codes "x") (codes "y") (Some (codes "t")) None true) }
+
+    ensures run_begins { requested (line (codes "run" ∷ codes "--begins" ∷ codes "t" ∷ codes "x" ∷ codes "y" ∷ []))
+        ≡ Some (run_request (codes "x") (codes "y") None (Some (codes "t")) false) }
 
     ensures show_options { requested (line (codes "show" ∷ codes "--service" ∷ codes "1111" ∷ codes "--types" ∷ codes "t"
         ∷ codes "x" ∷ [])) ≡ Some (show_request (codes "x") (Some (codes "1111")) (Some (codes "t"))) }

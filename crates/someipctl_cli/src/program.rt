@@ -14,7 +14,9 @@ use someipctl_recordings::audit::{AuditAsked, rules_in, show_audit};
 use someipctl_recordings::ports::ports_in;
 use someipctl_recordings::{Asked, ShownRecording, WholeLimits, limits_in, show_recording};
 use someipctl_run::chart::chart_schedule;
-use someipctl_run::{TraceForm, compare_schedule, read_expected, read_setup, run_schedule_in_form};
+use someipctl_run::{
+    Extent, TraceForm, compare_schedule, read_expected, read_setup, run_schedule_in_form,
+};
 use someipctl_show::encode::encode;
 use someipctl_show::payload::payload;
 use someipctl_show::services::{AskedService, services_in};
@@ -117,8 +119,12 @@ fn run_command<'w, R: Files + Print + Eprint + Input + AllocGlobal>(
             setup,
             schedule,
             expect,
+            begins,
             lines,
-        } => run_files(rt, setup, schedule, expect, form_of(lines)),
+        } => {
+            let wanted = wanted_of(expect, begins)?;
+            run_files(rt, setup, schedule, wanted, form_of(lines))
+        }
         Command::Chart { setup, schedule } => chart_files(rt, setup, schedule),
         Command::Recording { file, options } => show_recorded(rt, file, options),
         Command::Audit { file, options } => audit_recorded(rt, file, options),
@@ -319,6 +325,19 @@ fn form_of(lines: bool) -> TraceForm
     }
 }
 
+/// The file that says what is expected of a run, and how much of the trace it is.
+fn wanted_of<'p>(
+    expect: Option<&'p str>,
+    begins: Option<&'p str>,
+) -> Result<Option<(&'p str, Extent)>, Failure<'p>> {
+    match (expect, begins) {
+        (Some(_), Some(_)) => Err(Failure::ExpectAndBegins),
+        (Some(trace), None) => Ok(Some((trace, Extent::Whole))),
+        (None, Some(trace)) => Ok(Some((trace, Extent::Beginning))),
+        (None, None) => Ok(None),
+    }
+}
+
 /// Runs a schedule over a setup, and compares the trace where one is expected. Whatever is wrong with the
 /// setup is told before the other files are looked at, and whatever is wrong with the expected trace
 /// before the schedule.
@@ -326,12 +345,12 @@ fn run_files<'p, R: Files + Print + AllocGlobal>(
     rt: &R,
     setup: &'p str,
     schedule: &'p str,
-    expect: Option<&'p str>,
+    wanted: Option<(&'p str, Extent)>,
     form: TraceForm,
 ) -> Result<Outcome, Failure<'p>> {
     let network = setup_at(rt, setup)?;
-    if let Some(trace) = expect {
-        return compare_files(rt, &network, schedule, trace, form);
+    if let Some((trace, extent)) = wanted {
+        return compare_files(rt, &network, schedule, trace, extent, form);
     }
     let mut file = open_file(rt, schedule)?;
     match run_schedule_in_form(rt.alloc(), &network, form, &mut file, &mut io::writer(rt)) {
@@ -346,10 +365,11 @@ fn compare_files<'p, R: Files + Print + AllocGlobal>(
     network: &Setup,
     schedule: &'p str,
     trace: &'p str,
+    extent: Extent,
     form: TraceForm,
 ) -> Result<Outcome, Failure<'p>> {
     let mut file = open_file(rt, trace)?;
-    let expected = read_expected(rt.alloc(), &mut file).map_err(|fault| Failure::of(
+    let expected = read_expected(rt.alloc(), extent, &mut file).map_err(|fault| Failure::of(
         fault.map(Refusal::Trace),
         trace,
     ))?;
@@ -358,6 +378,7 @@ fn compare_files<'p, R: Files + Print + AllocGlobal>(
         rt.alloc(),
         network,
         form,
+        extent,
         &expected,
         &mut file,
         &mut io::writer(rt),

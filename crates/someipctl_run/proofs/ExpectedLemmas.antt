@@ -7,10 +7,12 @@ use Rattle.std.proofs.lemmas.List.FromFn.{length-enumerate_from}
 use Rattle.someip_world_rules.specs.declared.line.Line.{Line}
 use Rattle.someip_world_rules.specs.declared.reuse.Reuse.{Reuse}
 use Rattle.someip_world_setup.specs.declared.setup_node.SetupNode.{SetupNode}
-use Rattle.someipctl_run.specs.Expected.{FirstDiffer, GoesOnOtherwise, Mismatch, PrintedLine, is_no_line, line_left, line_len, printed_from, printed_lines, printed_text}
+use Rattle.someipctl_run.specs.Expected.{BeginsOtherwise, EndsOtherwise, FirstDiffer, IsExpected, Mismatch, PrintedLine, is_no_line, line_left, line_len, printed_from, printed_lines, printed_text}
 use Rattle.someip_world_schedule.specs.Schedule.{lines_of_steps}
 use Rattle.someipctl_run.specs.StepLines.{line_of_step}
 use Rattle.someipctl_run.specs.Traces.{formed_trace, marked_line, marked_lines, marked_verdict, number_after, shown_lines}
+use Rattle.someipctl_run.specs.declared.form.Extent.{Extent}
+use Rattle.someipctl_run.specs.declared.form.Extent.TheVariants.{Beginning}
 use Rattle.someipctl_run.specs.declared.form.TraceForm.{TraceForm}
 
 -- ---- the lines of a file
@@ -60,10 +62,27 @@ IsComparing-more all lines others line text rest more h next goes = record {
   same = last_line h.front line text rest more h.same goes;
 }
 
--- it does not
-pub IsComparing-differs : (all lines others more : List PrintedLine) (line : PrintedLine) (text rest : List ℕ) (mismatch : Mismatch) → IsComparing all lines text rest → lines ≡ line ∷ others
-    → GoesOnOtherwise rest line.text → mismatch ≡ record { expected = line_left rest; got = Some line.text; came_by = line.came_by } → FirstDiffer (all ++ more) text mismatch
-IsComparing-differs all lines others more line text rest mismatch h next goes is = record {
+-- it ends within it
+pub IsComparing-ended : (all lines others more : List PrintedLine) (line : PrintedLine) (text rest left : List ℕ) → IsComparing all lines text rest → lines ≡ line ∷ others
+    → line.text ≡ rest ++ left → IsExpected Beginning text (printed_text (all ++ more))
+IsComparing-ended all lines others more line text rest left h next ends =
+    let tail = printed_text (others ++ more) in
+    let whole : printed_text (all ++ more) ≡ printed_text h.front ++ (line.text ++ tail) =
+    ap (λ (l : List PrintedLine). printed_text (l ++ more)) (sym h.parts)
+    ∙ ap printed_text (append_assoc h.front lines more ∙ ap (λ (l : List PrintedLine). h.front ++ (l ++ more)) next)
+    ∙ flat_map-append (λ (l : PrintedLine). l.text) h.front (line ∷ (others ++ more)) in (
+      left ++ tail,
+      whole
+          ∙ ap (λ (t : List ℕ). printed_text h.front ++ t) (ap (λ (t : List ℕ). t ++ tail) ends ∙ append_assoc rest left tail)
+          ∙ sym (append_assoc (printed_text h.front) rest (left ++ tail))
+          ∙ ap (λ (t : List ℕ). t ++ (left ++ tail)) (sym h.same),
+    )
+
+-- neither
+pub IsComparing-differs : (extent : Extent) (all lines others more : List PrintedLine) (line : PrintedLine) (text rest : List ℕ) (mismatch : Mismatch) → IsComparing all lines text rest
+    → lines ≡ line ∷ others → BeginsOtherwise rest line.text → EndsOtherwise extent line.text rest
+    → mismatch ≡ record { expected = line_left rest; got = Some line.text; came_by = line.came_by } → FirstDiffer extent (all ++ more) text mismatch
+IsComparing-differs extent all lines others more line text rest mismatch h next goes ends is = record {
   front = h.front;
   others = line ∷ (others ++ more);
   rest = rest;
@@ -71,7 +90,7 @@ IsComparing-differs all lines others more line text rest mismatch h next goes is
       ap (λ (l : List PrintedLine). l ++ more) (sym h.parts) ∙ append_assoc h.front lines more
       ∙ ap (λ (l : List PrintedLine). h.front ++ (l ++ more)) next;
   same = h.same;
-  differ = (goes, is);
+  differ = (goes, ends, is);
 }
 
 -- what is left begins with the next line
@@ -83,10 +102,10 @@ next_printed form step_lines nodes number lines i line lt is =
     at_drop_more (printed_from form step_lines nodes number) lines i line lt ∙ ap (λ l. printed_from form step_lines nodes number (l ∷ drop (i + 1) lines)) (sym is)
 
 -- the text goes on after all lines
-pub goes_on : (lines : List PrintedLine) (text rest : List ℕ) (mismatch : Mismatch) → text ≡ printed_text lines ++ rest → (rest ≡ [] → ⊥)
-    → mismatch ≡ record { expected = line_left rest; got = None; came_by = None } → FirstDiffer lines text mismatch
-goes_on lines text [] mismatch same some is = absurd (some refl)
-goes_on lines text (b ∷ rest) mismatch same some is =
+pub goes_on : (extent : Extent) (lines : List PrintedLine) (text rest : List ℕ) (mismatch : Mismatch) → text ≡ printed_text lines ++ rest → (rest ≡ [] → ⊥)
+    → mismatch ≡ record { expected = line_left rest; got = None; came_by = None } → FirstDiffer extent lines text mismatch
+goes_on extent lines text [] mismatch same some is = absurd (some refl)
+goes_on extent lines text (b ∷ rest) mismatch same some is =
     record { front = lines; others = []; rest = b ∷ rest; parts = sym (append-nil lines); same = same; differ = is }
 
 -- ---- the text of the lines

@@ -19,6 +19,8 @@ use Rattle.someipctl_run.specs.StepLines.{line_of_step}
 use Rattle.someipctl_run.specs.Traces.{came_by_text, formed_trace, marked_line, marked_verdict, number_after, shown_lines}
 use Rattle.someipctl_run.specs.declared.error.BadTraceLine.{BadTraceLine}
 use Rattle.someipctl_run.specs.declared.error.ScheduleRefusal.{ScheduleRefusal}
+use Rattle.someipctl_run.specs.declared.form.Extent.{Extent}
+use Rattle.someipctl_run.specs.declared.form.Extent.TheVariants.{Whole, Beginning}
 use Rattle.someipctl_run.specs.declared.form.TraceForm.{TraceForm}
 
 -- ---- the file
@@ -35,13 +37,14 @@ first_no_line file = position_from is_no_line 1 (lines_of file)
 abbrev pub is_unended : List ℕ → Bool
 is_unended text = option_map_or (λ b. not (b == 0x0a)) (slice_get text (length text - 1)) false
 
--- the text that a file expects: its own, and where its last line has no line feed, that too
-abbrev pub expected_of : List ℕ → List ℕ
-expected_of file = if is_unended file then file ++ codes "\n" else file
+-- the text that a file expects: its own, and where the last line of a whole trace has no line feed, that too
+abbrev pub expected_of : Extent → List ℕ → List ℕ
+expected_of Whole file = if is_unended file then file ++ codes "\n" else file
+expected_of Beginning file = file
 
 -- a file expects this text
-abbrev pub Expects : List ℕ → List ℕ → Type 0
-Expects text file = (first_no_line file ≡ None) × (text ≡ expected_of file)
+abbrev pub Expects : Extent → List ℕ → List ℕ → Type 0
+Expects extent text file = (first_no_line file ≡ None) × (text ≡ expected_of extent file)
 
 -- why it expects none
 abbrev pub RefusesExpected : Option (List ℕ) → Fault BadTraceLine → Type 0
@@ -91,25 +94,31 @@ abbrev pub line_left : List ℕ → Option (List ℕ)
 line_left [] = None
 line_left (b ∷ rest) = Some (take (line_len (b ∷ rest)) (b ∷ rest))
 
--- an expected text does not go on with a line
-abbrev pub GoesOnOtherwise : List ℕ → List ℕ → Type 0
-GoesOnOtherwise rest text = (more : List ℕ) → rest ≡ text ++ more → ⊥
+-- a text does not begin with another
+abbrev pub BeginsOtherwise : List ℕ → List ℕ → Type 0
+BeginsOtherwise text front = (more : List ℕ) → text ≡ front ++ more → ⊥
+
+-- what is left of an expected text may end within a line only where it is that of a beginning
+abbrev pub EndsOtherwise : Extent → List ℕ → List ℕ → Type 0
+EndsOtherwise Whole line rest = Unit {0}
+EndsOtherwise Beginning line rest = BeginsOtherwise line rest
 
 -- what is left of the printed lines and of the expected text differs at once
-abbrev pub DifferAtOnce : List PrintedLine → List ℕ → Mismatch → Type 0
-DifferAtOnce [] [] mismatch = ⊥
-DifferAtOnce [] (b ∷ rest) mismatch = mismatch ≡ record { expected = line_left (b ∷ rest); got = None; came_by = None }
-DifferAtOnce (line ∷ lines) rest mismatch =
-    GoesOnOtherwise rest line.text × (mismatch ≡ record { expected = line_left rest; got = Some line.text; came_by = line.came_by })
+abbrev pub DifferAtOnce : Extent → List PrintedLine → List ℕ → Mismatch → Type 0
+DifferAtOnce extent [] [] mismatch = ⊥
+DifferAtOnce extent [] (b ∷ rest) mismatch = mismatch ≡ record { expected = line_left (b ∷ rest); got = None; came_by = None }
+DifferAtOnce extent (line ∷ lines) rest mismatch =
+    BeginsOtherwise rest line.text × EndsOtherwise extent line.text rest
+    × (mismatch ≡ record { expected = line_left rest; got = Some line.text; came_by = line.came_by })
 
 -- the printed lines and an expected text first differ so: up to there the text is that of the lines
-pub record FirstDiffer (lines : List PrintedLine) (text : List ℕ) (mismatch : Mismatch) : Type 0 where
+pub record FirstDiffer (extent : Extent) (lines : List PrintedLine) (text : List ℕ) (mismatch : Mismatch) : Type 0 where
   pub front : List PrintedLine
   pub others : List PrintedLine
   pub rest : List ℕ
   pub parts : lines ≡ front ++ others
   pub same : text ≡ printed_text front ++ rest
-  pub differ : DifferAtOnce others rest mismatch
+  pub differ : DifferAtOnce extent others rest mismatch
 
 -- a line, or `-` and a line feed for none
 abbrev pub line_or_dash : Option (List ℕ) → List ℕ
@@ -125,34 +134,39 @@ mismatch_text mismatch = joined (
 
 -- ---- the comparison
 
--- a run is what is expected exactly where its trace is that text, and nothing is written then; else the first
--- difference is
-abbrev pub ComparesTrace : TraceForm → List SetupNode → List ℕ → List ℕ → List Line → Reuse → Outcome → Option (List ℕ) → Option (List ℕ) → Type 0
-ComparesTrace form nodes expected text lines verdict Done before after =
-    (expected ≡ formed_trace form text nodes lines verdict) × Keeps before after
-ComparesTrace form nodes expected text lines verdict FaultShown before after =
-    (mismatch : Mismatch) × FirstDiffer (printed_lines form (lines_of_steps text) nodes lines verdict) expected mismatch × Appends before after (mismatch_text mismatch)
+-- a trace is what is expected: it is that text, or begins with it
+abbrev pub IsExpected : Extent → List ℕ → List ℕ → Type 0
+IsExpected Whole expected trace = expected ≡ trace
+IsExpected Beginning expected trace = (more : List ℕ) × (trace ≡ expected ++ more)
+
+-- nothing is written where the trace of a run is what is expected, and else the first difference
+abbrev pub ComparesTrace : Extent → TraceForm → List SetupNode → List ℕ → List ℕ → List Line → Reuse → Outcome → Option (List ℕ) → Option (List ℕ) → Type 0
+ComparesTrace extent form nodes expected text lines verdict Done before after =
+    IsExpected extent expected (formed_trace form text nodes lines verdict) × Keeps before after
+ComparesTrace extent form nodes expected text lines verdict FaultShown before after =
+    (mismatch : Mismatch) × FirstDiffer extent (printed_lines form (lines_of_steps text) nodes lines verdict) expected mismatch
+    × Appends before after (mismatch_text mismatch)
 
 -- a schedule has a trace, which is compared with what is expected
-abbrev pub Compares : TraceForm → List SetupNode → List ℕ → List ℕ → Outcome → Option (List ℕ) → Option (List ℕ) → Type 0
-Compares form nodes expected text outcome before after =
-    (lines : List Line) × (verdict : Reuse) × IsTraceOf nodes text lines verdict × ComparesTrace form nodes expected text lines verdict outcome before after
+abbrev pub Compares : Extent → TraceForm → List SetupNode → List ℕ → List ℕ → Outcome → Option (List ℕ) → Option (List ℕ) → Type 0
+Compares extent form nodes expected text outcome before after =
+    (lines : List Line) × (verdict : Reuse) × IsTraceOf nodes text lines verdict × ComparesTrace extent form nodes expected text lines verdict outcome before after
 
 -- a beginning of the first difference was written
-abbrev pub ComparesPartly : TraceForm → List SetupNode → List ℕ → List ℕ → Option (List ℕ) → Option (List ℕ) → Type 0
-ComparesPartly form nodes expected text before after =
+abbrev pub ComparesPartly : Extent → TraceForm → List SetupNode → List ℕ → List ℕ → Option (List ℕ) → Option (List ℕ) → Type 0
+ComparesPartly extent form nodes expected text before after =
     (lines : List Line) × (verdict : Reuse) × IsTraceOf nodes text lines verdict
-    × (mismatch : Mismatch) × FirstDiffer (printed_lines form (lines_of_steps text) nodes lines verdict) expected mismatch
+    × (mismatch : Mismatch) × FirstDiffer extent (printed_lines form (lines_of_steps text) nodes lines verdict) expected mismatch
     × (sent : List ℕ) × (unsent : List ℕ) × Appends before after sent × (sent ++ unsent ≡ mismatch_text mismatch)
 
 -- what a fault says of the schedule, and of what was written
-abbrev pub RefusesComparing : TraceForm → List SetupNode → List ℕ → List ℕ → Fault ScheduleRefusal → Option (List ℕ) → Option (List ℕ) → Type 0
-RefusesComparing form nodes expected text fault before after = RefusesBeginning (ComparesPartly form nodes expected text) nodes text fault before after
+abbrev pub RefusesComparing : Extent → TraceForm → List SetupNode → List ℕ → List ℕ → Fault ScheduleRefusal → Option (List ℕ) → Option (List ℕ) → Type 0
+RefusesComparing extent form nodes expected text fault before after = RefusesBeginning (ComparesPartly extent form nodes expected text) nodes text fault before after
 
 -- a schedule that is read has a trace, which is compared with what is expected
-abbrev pub ComparesInput : TraceForm → List SetupNode → List ℕ → Option (List ℕ) → Outcome → Option (List ℕ) → Option (List ℕ) → Type 0
-ComparesInput form nodes expected input outcome before after = OfInput input (λ text. Compares form nodes expected text outcome before after)
+abbrev pub ComparesInput : Extent → TraceForm → List SetupNode → List ℕ → Option (List ℕ) → Outcome → Option (List ℕ) → Option (List ℕ) → Type 0
+ComparesInput extent form nodes expected input outcome before after = OfInput input (λ text. Compares extent form nodes expected text outcome before after)
 
 -- what a fault says of a schedule that is read, and of what was written, once the setup and the expected text were read
-abbrev pub RefusesInputComparing : TraceForm → List SetupNode → List ℕ → Option (List ℕ) → Fault ScheduleRefusal → Option (List ℕ) → Option (List ℕ) → Type 0
-RefusesInputComparing form nodes expected input fault before after = RefusesReading (RefusesComparing form nodes expected) input fault before after
+abbrev pub RefusesInputComparing : Extent → TraceForm → List SetupNode → List ℕ → Option (List ℕ) → Fault ScheduleRefusal → Option (List ℕ) → Option (List ℕ) → Type 0
+RefusesInputComparing extent form nodes expected input fault before after = RefusesReading (RefusesComparing extent form nodes expected) input fault before after

@@ -1,18 +1,20 @@
 //! Comparing the trace of a schedule with the one that is expected.
 ghost use Rattle.std.specs.Prelude.{◌≡◌, ◌≢◌, ◌≤◌, [], None, IfOk, IfErr, OnOk, OnErr, MatchOption};
-ghost use Rattle.std.specs.Prelude.{codes, length};
+ghost use Rattle.std.specs.Prelude.{ℕ, List, ◌++◌, true, false, codes, length};
 ghost use Rattle.std.specs.Option.{option_map_or};
 ghost use Rattle.std.specs.Io.KnownBytes.{Appends};
 ghost use Rattle.someipctl_io.specs.Sending.{Sends, Stops};
 ghost use Rattle.someipctl_run.specs.Comparing.{ComparedFrom, IsLineTaken, view_mismatch};
-ghost use Rattle.someipctl_run.specs.Expected.{Compares, ComparesInput, FirstDiffer, RefusesComparing};
+ghost use Rattle.someipctl_run.specs.Expected.{Compares, ComparesInput, EndsOtherwise, FirstDiffer};
+ghost use Rattle.someipctl_run.specs.Expected.{IsExpected, RefusesComparing};
+ghost use Rattle.someipctl_run.specs.declared.form.Extent.TheVariants.{Beginning};
 ghost use Rattle.someipctl_run.specs.Expected.{RefusesInputComparing, line_left, line_len};
 ghost use Rattle.someipctl_run.specs.Expected.{line_or_dash, mismatch_text, printed_text};
 ghost use Rattle.someipctl_run.specs.FormedTraces.{lines_before_verdict, lines_in_form};
 ghost use Rattle.someipctl_run.specs.Traces.{marked_line, marked_verdict, pointed};
 
 use crate::error::ScheduleRefusal;
-use crate::form::{FormedTrace, TraceForm};
+use crate::form::{Extent, FormedTrace, TraceForm};
 use crate::running::run_of_text;
 use crate::step_lines::line_of_step;
 use crate::trace_lines::{came_by_part, number_after, put_marked_line, put_verdict};
@@ -38,31 +40,34 @@ pub(crate) struct Mismatch<'e> {
 pub(crate) enum Compared<'e> {
     /// The text went on with it, and this is what is left.
     Same(&'e [u8]),
-    /// It did not.
+    /// The text, which is that of a beginning, ended within it.
+    Ended,
+    /// Neither.
     Differs(Mismatch<'e>),
 }
 
 /// Reads a schedule whole, runs it over a setup, compares the trace in a form with the text that is
-/// expected, and writes the first difference, if there is one.
+/// expected of all of it or of its beginning, and writes the first difference, if there is one.
 pub fn compare_schedule<R: Read, W: Write>(
     alloc: Global,
     setup: &Setup,
     form: TraceForm,
+    extent: Extent,
     expected: &[u8],
     reader: &mut R,
     writer: &mut W,
 ) -> Result<Outcome, Fault<ScheduleRefusal>>
-    // `Done` says that the trace is that text, byte for byte, and nothing was written; `FaultShown`
-    // that the first difference was.
-    ensures compared { IfOk result (λ outcome. ComparesInput form setup.now.nodes expected.now
+    // `Done` says that the trace is that text, or begins with it, byte for byte, and nothing was
+    // written; `FaultShown` that the first difference was.
+    ensures compared { IfOk result (λ outcome. ComparesInput extent form setup.now.nodes expected.now
         (R.remaining reader.old) outcome (W.contents writer.old) (W.contents writer.new)) }
     // An error names the first bad line or the first step that can't happen, and leaves nothing
     // written, but for one of writing: that leaves a beginning of the text.
-    ensures refused { IfErr result (λ fault. RefusesInputComparing form setup.now.nodes expected.now
+    ensures refused { IfErr result (λ fault. RefusesInputComparing extent form setup.now.nodes expected.now
         (R.remaining reader.old) fault (W.contents writer.old) (W.contents writer.new)) }
 {
     let text = read_all(alloc, reader)?;
-    compare_text(alloc, setup, form, expected, &text, writer)
+    compare_text(alloc, setup, form, extent, expected, &text, writer)
 }
 
 /// Runs the schedule that a text spells over a setup, and compares its trace.
@@ -70,13 +75,14 @@ fn compare_text<W: Write>(
     alloc: Global,
     setup: &Setup,
     form: TraceForm,
+    extent: Extent,
     expected: &[u8],
     text: &[u8],
     writer: &mut W,
 ) -> Result<Outcome, Fault<ScheduleRefusal>>
-    ensures compared { IfOk result (λ outcome. Compares form setup.now.nodes expected.now
+    ensures compared { IfOk result (λ outcome. Compares extent form setup.now.nodes expected.now
         text.now outcome (W.contents writer.old) (W.contents writer.new)) }
-    ensures refused { IfErr result (λ fault. RefusesComparing form setup.now.nodes expected.now
+    ensures refused { IfErr result (λ fault. RefusesComparing extent form setup.now.nodes expected.now
         text.now fault (W.contents writer.old) (W.contents writer.new)) }
 {
     let ran = run_of_text(alloc, setup, text)?;
@@ -88,7 +94,7 @@ fn compare_text<W: Write>(
         lines: &ran.trace.lines,
         verdict: ran.trace.verdict,
     };
-    let found = first_mismatch(alloc, &mut buffer, &trace, expected)?;
+    let found = first_mismatch(alloc, &mut buffer, &trace, extent, expected)?;
     match found {
         None => Ok(Outcome::Done),
         Some(mismatch) => {
@@ -98,21 +104,23 @@ fn compare_text<W: Write>(
     }
 }
 
-/// The first difference between a trace in a form and a text, through an empty buffer.
+/// The first difference between a trace in a form and what is expected of it, through an empty buffer.
 fn first_mismatch<'e>(
     alloc: Global,
     buffer: &mut Buffer,
     trace: &FormedTrace<'_>,
+    extent: Extent,
     expected: &'e [u8],
 ) -> Result<Option<Mismatch<'e>>, AllocError>
     requires { buffer.old ≡ [] }
     ensures empty { OnOk result (buffer.new ≡ []) }
     ensures found { IfOk result (λ found. MatchOption found
-        (expected.now ≡ printed_text (lines_in_form trace.now))
-        (λ mismatch. FirstDiffer (lines_in_form trace.now) expected.now (view_mismatch mismatch))) }
+        (IsExpected extent expected.now (printed_text (lines_in_form trace.now)))
+        (λ mismatch. FirstDiffer extent (lines_in_form trace.now) expected.now (view_mismatch mismatch))) }
 {
-    let rest = match compare_lines(alloc, buffer, trace, expected)? {
+    let rest = match compare_lines(alloc, buffer, trace, extent, expected)? {
         Compared::Same(rest) => rest,
+        Compared::Ended => return Ok(None),
         Compared::Differs(mismatch) => return Ok(Some(mismatch)),
     };
     let text = text_of_verdict(
@@ -121,8 +129,9 @@ fn first_mismatch<'e>(
         trace.form.shown(trace.step_lines),
         trace.verdict,
     )?;
-    match take_line(rest, None, text) {
+    match take_line(extent, rest, None, text) {
         Compared::Same(rest) => Ok(left_over(rest)),
+        Compared::Ended => Ok(None),
         Compared::Differs(mismatch) => Ok(Some(mismatch)),
     }
 }
@@ -132,12 +141,13 @@ fn compare_lines<'e>(
     alloc: Global,
     buffer: &mut Buffer,
     trace: &FormedTrace<'_>,
+    extent: Extent,
     expected: &'e [u8],
 ) -> Result<Compared<'e>, AllocError>
     requires { buffer.old ≡ [] }
     ensures empty { OnOk result (buffer.new ≡ []) }
     ensures compared { IfOk result
-        (ComparedFrom (lines_before_verdict trace.now) expected.now) }
+        (ComparedFrom extent (lines_before_verdict trace.now) expected.now) }
 {
     let lines = trace.lines;
     let mut number = 1;
@@ -145,8 +155,14 @@ fn compare_lines<'e>(
     for line in lines {
         let step_lines = trace.form.shown(trace.step_lines);
         let text = text_of_line(alloc, buffer, step_lines, trace.nodes, number, line)?;
-        match take_line(rest, line_of_step(trace.step_lines, line.step), text) {
+        match take_line(
+            extent,
+            rest,
+            line_of_step(trace.step_lines, line.step),
+            text,
+        ) {
             Compared::Same(others) => rest = others,
+            Compared::Ended => return Ok(Compared::Ended),
             Compared::Differs(mismatch) => return Ok(Compared::Differs(mismatch)),
         }
         number = number_after(number, line);
@@ -155,16 +171,39 @@ fn compare_lines<'e>(
 }
 
 /// What a line leaves of a text.
-fn take_line<'e>(rest: &'e [u8], came_by: Option<usize>, text: Vec<u8>) -> Compared<'e>
-    ensures { IsLineTaken rest.now came_by text.items result }
+fn take_line<'e>(
+    extent: Extent,
+    rest: &'e [u8],
+    came_by: Option<usize>,
+    text: Vec<u8>,
+) -> Compared<'e>
+    ensures { IsLineTaken extent rest.now came_by text.items result }
 {
-    match rest.strip_prefix(text.as_slice()) {
-        Some(others) => Compared::Same(others),
-        None => Compared::Differs(Mismatch {
-            expected: line_left(rest),
-            got: Some(text),
-            came_by,
-        }),
+    if let Some(others) = rest.strip_prefix(text.as_slice()) {
+        return Compared::Same(others);
+    }
+    if ends_within(extent, rest, text.as_slice()) {
+        return Compared::Ended;
+    }
+    Compared::Differs(Mismatch {
+        expected: line_left(rest),
+        got: Some(text),
+        came_by,
+    })
+}
+
+/// Whether a text is that of a beginning, and ends within a line.
+fn ends_within(extent: Extent, rest: &[u8], line: &[u8]) -> bool
+    ensures yes { result ≡ true
+        → (extent ≡ Beginning) × ((more : List ℕ) × (line.now ≡ rest.now ++ more)) }
+    ensures no { result ≡ false → EndsOtherwise extent line.now rest.now }
+{
+    match extent {
+        Extent::Whole => false,
+        Extent::Beginning => match line.strip_prefix(rest) {
+            Some(_left) => true,
+            None => false,
+        },
     }
 }
 

@@ -5,18 +5,23 @@ ghost use Rattle.someipctl_run.specs.Expected.{Expects, RefusesExpected, first_n
 ghost use Rattle.someipctl_run.specs.Expected.{is_unended};
 
 use crate::error::BadTraceLine;
+use crate::form::Extent;
 use someip_texts::text_of;
 use someipctl_io::{Fault, read_all};
 use std::alloc::Global;
 use std::io::Read;
 
-/// Reads a file whole that says which trace is expected: its text, to which a line feed is appended
-/// where its last line has none.
+/// Reads a file whole that says which trace is expected, or how it begins: its text. Where that of a
+/// whole trace has no line feed behind its last line, one is appended.
 ///
 /// A line that is not UTF-8, or has a carriage return, refuses the file.
-pub fn read_expected<R: Read>(alloc: Global, reader: &mut R) -> Result<Vec<u8>, Fault<BadTraceLine>>
-    // It is the text of the file, each line of which ends with a line feed.
-    ensures said { IfOk result (λ text. OfInput (R.remaining reader.old) (Expects text.items)) }
+pub fn read_expected<R: Read>(
+    alloc: Global,
+    extent: Extent,
+    reader: &mut R,
+) -> Result<Vec<u8>, Fault<BadTraceLine>>
+    // It is the text of the file; each line of a whole trace ends with a line feed.
+    ensures said { IfOk result (λ text. OfInput (R.remaining reader.old) (Expects extent text.items)) }
     // The error names the first bad line.
     ensures refused { IfErr result (RefusesExpected (R.remaining reader.old)) }
 {
@@ -24,7 +29,7 @@ pub fn read_expected<R: Read>(alloc: Global, reader: &mut R) -> Result<Vec<u8>, 
     if let Some(line) = first_no_line(&text) {
         return Err(Fault::Refused(BadTraceLine(line)));
     }
-    if is_unended(&text) {
+    if extent == Extent::Whole && is_unended(&text) {
         text.push(b'\n')?;
     }
     Ok(text)

@@ -14,6 +14,15 @@ pub enum TraceForm {
     WithLines,
 }
 
+/// How much of a trace a file holds that it is compared with.
+#[derive(Clone, Copy, PartialEq, Eq)]
+pub enum Extent {
+    /// The whole trace, the verdict too.
+    Whole,
+    /// The beginning of it, which may end in the middle of a line.
+    Beginning,
+}
+
 impl TraceForm {
     /// The lines on which the steps stand, where the trace shows them.
     pub(crate) fn shown(self, step_lines: &[usize]) -> Option<&[usize]>

@@ -3,7 +3,8 @@
 //! - [`read_setup`]: the setup of the network;
 //! - [`run_schedule`], [`run_schedule_in_form`]: runs a schedule over it, and writes the trace, of which
 //!   a [`TraceForm`] says what stands before its lines;
-//! - [`read_expected`], [`compare_schedule`]: compares the trace with the one that a file expects;
+//! - [`read_expected`], [`compare_schedule`]: compares the trace, or its beginning, with what a file
+//!   expects, of which an [`Extent`] says how much it is;
 //! - [`told_text`]: what a line of a trace tells;
 //! - [`chart`]: the command `chart`, a picture of a run;
 //! - [`laws`]: what the definitions promise.
@@ -27,7 +28,7 @@ mod trace_lines;
 pub use comparing::compare_schedule;
 pub use error::{BadTraceLine, ScheduleRefusal, SetupRefusal};
 pub use expected::read_expected;
-pub use form::TraceForm;
+pub use form::{Extent, TraceForm};
 pub use outputs::told_text;
 pub use running::{run_schedule, run_schedule_in_form};
 pub use setups::read_setup;

@@ -7,7 +7,8 @@ use someip_world::Setup;
 use someipctl_cli::{Failure, Refusal};
 use someipctl_io::Outcome;
 use someipctl_run::{
-    TraceForm, compare_schedule, read_expected, read_setup, run_schedule, run_schedule_in_form,
+    Extent, TraceForm, compare_schedule, read_expected, read_setup, run_schedule,
+    run_schedule_in_form,
 };
 use someipctl_show::payload::payload;
 use someipctl_show::vectors::vectors;
@@ -26,24 +27,25 @@ enum Part {
     Schedule,
     /// The schedule, whose lines are shown in the trace.
     ScheduleWithLines,
-    /// The trace that is expected of this schedule.
-    Trace(&'static [u8]),
+    /// So much of the trace as is expected of this schedule.
+    Trace(Extent, &'static [u8]),
 }
 
-/// Reads the trace that is expected, and then compares that of a schedule.
+/// Reads what is expected of a trace, and then compares that of a schedule.
 fn compare<R: Read>(
     alloc: Global,
     network: &Setup,
+    extent: Extent,
     expected: &mut R,
     mut schedule: &[u8],
     writer: &mut SlowWriter,
 ) -> Result<Outcome, Failure<'static>> {
-    let trace = match read_expected(alloc, expected) {
+    let trace = match read_expected(alloc, extent, expected) {
         Ok(trace) => trace,
         Err(fault) => return Err(Failure::of(fault.map(Refusal::Trace), PATH)),
     };
     let form = TraceForm::Plain;
-    match compare_schedule(alloc, network, form, &trace, &mut schedule, writer) {
+    match compare_schedule(alloc, network, form, extent, &trace, &mut schedule, writer) {
         Ok(outcome) => Ok(outcome),
         Err(fault) => Err(Failure::of(fault.map(Refusal::Schedule), PATH)),
     }
@@ -62,7 +64,9 @@ fn run_part<R: Read>(
         Part::ScheduleWithLines => {
             run_schedule_in_form(alloc, network, TraceForm::WithLines, reader, writer)
         }
-        Part::Trace(schedule) => return compare(alloc, network, reader, schedule, writer),
+        Part::Trace(extent, schedule) => {
+            return compare(alloc, network, extent, reader, schedule, writer);
+        }
     };
     match ran {
         Ok(()) => Ok(Outcome::Done),
@@ -114,8 +118,14 @@ fn perform(
         Command::RunWithLines(mut setup) => {
             run_over(alloc, &mut setup, Part::ScheduleWithLines, reader, writer)
         }
-        Command::Compare(mut setup, schedule) => {
-            run_over(alloc, &mut setup, Part::Trace(schedule), reader, writer)
+        Command::Compare(extent, mut setup, schedule) => {
+            run_over(
+                alloc,
+                &mut setup,
+                Part::Trace(extent, schedule),
+                reader,
+                writer,
+            )
         }
     }
 }

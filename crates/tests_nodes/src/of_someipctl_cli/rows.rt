@@ -27,6 +27,7 @@ pub const ROWS: &[Row] = &[
             setup: "x",
             schedule: "y",
             expect: None,
+            begins: None,
             lines: false,
         },
     ),
@@ -36,7 +37,18 @@ pub const ROWS: &[Row] = &[
             setup: "x",
             schedule: "y",
             expect: Some("t"),
+            begins: None,
             lines: true,
+        },
+    ),
+    (
+        "someipctl|run|--begins=t|x|y",
+        Run {
+            setup: "x",
+            schedule: "y",
+            expect: None,
+            begins: Some("t"),
+            lines: false,
         },
     ),
     (

@@ -8,8 +8,9 @@ use Rattle.someipctl_cli.proofs.grammar.run_definition.Goals as goal
 pub returns-clause-shape : goal.returns-clause-shape
 returns-clause-shape c =
     let first = c.taking-first.ensures.app (new_app (codes "run")) (valued (codes "expect")) (search rules) c.valued_option-expect.ensures.rule in
-    let second = c.taking-second.ensures.app _ (flag (codes "lines")) first c.flag-lines.ensures.rule in
-    shape_from_app _ _ (c.add_inputs.ensures.app _ second)
+    let second = c.taking-second.ensures.app _ (valued (codes "begins")) first c.valued_option-begins.ensures.rule in
+    let third = c.taking-third.ensures.app _ (flag (codes "lines")) second c.flag-lines.ensures.rule in
+    shape_from_app _ _ (c.add_inputs.ensures.app _ third)
 
 pub returns-clause-local : goal.returns-clause-local
-returns-clause-local c = c.add_inputs.ensures.local (c.taking-second.ensures.local (c.taking-first.ensures.local (search rules)))
+returns-clause-local c = c.add_inputs.ensures.local (c.taking-third.ensures.local (c.taking-second.ensures.local (c.taking-first.ensures.local (search rules))))

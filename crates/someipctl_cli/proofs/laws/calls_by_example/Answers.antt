@@ -10,6 +10,7 @@ returns c = record {
   vectors = refl;
   run = refl;
   run_options = refl;
+  run_begins = refl;
   show_options = refl;
   recording = refl;
   recording_options = refl;

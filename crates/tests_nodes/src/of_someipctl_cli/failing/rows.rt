@@ -1,5 +1,6 @@
 //! Commands over an input, what they print, and how they end.
 use Command::{Compare, Payload, RunSchedule, RunSetup, RunWithLines, Show, Vectors};
+use someipctl_run::Extent;
 
 /// What a command does with its input.
 #[derive(Clone, Copy)]
@@ -16,8 +17,8 @@ pub enum Command {
     RunSchedule(&'static [u8]),
     /// The same with the lines of the schedule.
     RunWithLines(&'static [u8]),
-    /// `run` of this setup and this schedule, and of it as the trace that is expected.
-    Compare(&'static [u8], &'static [u8]),
+    /// `run` of this setup and this schedule, and of it as so much of the trace as is expected.
+    Compare(Extent, &'static [u8], &'static [u8]),
 }
 
 /// How a command ends: the text for standard error, and the exit status.
@@ -41,7 +42,7 @@ impl Row {
     pub fn reads(&self) -> usize {
         match self.command {
             Payload(_, _) => 0,
-            Show | Vectors | RunSetup(_) | RunSchedule(_) | RunWithLines(_) | Compare(_, _) => {
+            Show | Vectors | RunSetup(_) | RunSchedule(_) | RunWithLines(_) | Compare(_, _, _) => {
                 self.input.len().saturating_add(1)
             }
         }
@@ -102,6 +103,12 @@ const TRACE_WITH_LINES: &str = "2 1 a sent 1 192.168.0.1:30490 239.0.0.1:30490 \
 
 /// What is told of it beside a trace that has no line.
 const NO_TRACE: &str = "expected -\n\
+    got 1 a sent 1 192.168.0.1:30490 239.0.0.1:30490 \
+    ffff8100000000300000000101010200c000000000000010010000101111000101000003000000000000000c00090400c0a800010011772d\n\
+    line 1\n";
+
+/// The same beside a trace with another line.
+const OTHER_BEGINNING: &str = "expected 1 b\n\
     got 1 a sent 1 192.168.0.1:30490 239.0.0.1:30490 \
     ffff8100000000300000000101010200c000000000000010010000101111000101000003000000000000000c00090400c0a800010011772d\n\
     line 1\n";
@@ -167,19 +174,19 @@ pub const RUNS: &[Row] = &[
         end: ("", 0),
     },
     Row {
-        command: Compare(TWO, SCHEDULE),
+        command: Compare(Extent::Whole, TWO, SCHEDULE),
         input: TRACE_FILE,
         printed: "",
         end: ("", 0),
     },
     Row {
-        command: Compare(TWO, SCHEDULE),
+        command: Compare(Extent::Whole, TWO, SCHEDULE),
         input: b"",
         printed: NO_TRACE,
         end: ("", 1),
     },
     Row {
-        command: Compare(TWO, SCHEDULE),
+        command: Compare(Extent::Whole, TWO, SCHEDULE),
         input: b"1 a\r\n",
         printed: "",
         end: (
@@ -188,10 +195,41 @@ pub const RUNS: &[Row] = &[
         ),
     },
     Row {
-        command: Compare(TWO, b"tick c 10\n"),
+        command: Compare(Extent::Whole, TWO, b"tick c 10\n"),
         input: b"",
         printed: "",
         end: ("step 1: UnknownNode", 1),
+    },
+    // The trace begins with nothing, and with a line that was cut; it has no line behind the verdict.
+    Row {
+        command: Compare(Extent::Beginning, TWO, SCHEDULE),
+        input: b"",
+        printed: "",
+        end: ("", 0),
+    },
+    Row {
+        command: Compare(Extent::Beginning, TWO, SCHEDULE),
+        input: b"1 a sent 1 192.168",
+        printed: "",
+        end: ("", 0),
+    },
+    Row {
+        command: Compare(Extent::Beginning, TWO, SCHEDULE),
+        input: TRACE_FILE,
+        printed: "",
+        end: ("", 0),
+    },
+    Row {
+        command: Compare(Extent::Beginning, TWO, SCHEDULE),
+        input: b"1 b\n",
+        printed: OTHER_BEGINNING,
+        end: ("", 1),
+    },
+    Row {
+        command: Compare(Extent::Beginning, TWO, b"tick b 9\n"),
+        input: b"reuse clean\n2",
+        printed: "expected 2\ngot -\nline -\n",
+        end: ("", 1),
     },
     Row {
         command: RunSetup(SCHEDULE),
