@@ -28,7 +28,10 @@ static void give_up(const char *what) {
 
 void must(const char *call, uint32_t outcome) {
     if (outcome != SOMEIP_DONE) {
-        fprintf(stderr, "%s: outcome %u\n", call, outcome);
+        uint8_t name[32];
+        size_t length = 0;
+        someip_outcome_text(outcome, name, sizeof name, &length);
+        fprintf(stderr, "%s: %.*s\n", call, (int)length, (const char *)name);
         exit(2);
     }
 }

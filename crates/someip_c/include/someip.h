@@ -55,8 +55,8 @@ enum {
     SOMEIP_CLOSED = 1,           /* the handle has no node */
     SOMEIP_HELD = 2,             /* the handle has a node already */
     SOMEIP_OUTPUTS_WAIT = 3,     /* outputs of an earlier call are to be taken first */
-    SOMEIP_NOTHING_LEFT = 4,     /* all outputs were taken */
-    SOMEIP_BUFFER_TOO_SMALL = 5, /* the next output has more bytes than the buffer; output says how many */
+    SOMEIP_NOTHING_LEFT = 4,     /* all outputs were taken, or there are no more endpoints */
+    SOMEIP_BUFFER_TOO_SMALL = 5, /* there are more bytes than the buffer has; it is told how many */
     SOMEIP_NOTHING_DUE = 6,      /* the clock alone gives nothing any more */
     SOMEIP_NOT_TEXT = 7,         /* the setup is not UTF-8 */
     SOMEIP_NOT_TOML = 8,         /* the setup is no TOML */
@@ -77,7 +77,13 @@ enum {
     SOMEIP_UNKNOWN_TOKEN = 24,   /* no request waits under the token */
     SOMEIP_BAD_ERROR_CODE = 26,  /* an ERROR has the code of no error */
     SOMEIP_UNKNOWN_EVENT = 27,   /* there is no such event */
-    SOMEIP_NOT_SUBSCRIBED = 28   /* the endpoint has no such subscription */
+    SOMEIP_NOT_SUBSCRIBED = 28,  /* the endpoint has no such subscription */
+    SOMEIP_BAD_STEP = 29,        /* the line is no step that a node does */
+    SOMEIP_PAYLOAD_TOO_LONG = 30, /* the payload of the step is longer than the message limit of the setup */
+    SOMEIP_NO_MEMORY = 31,       /* memory ran out, and nothing has changed */
+    SOMEIP_BAD_SHAPE = 32,       /* the text is no shape, or no payload can have it */
+    SOMEIP_BAD_PAYLOAD = 33,     /* the payload is not the bytes of a value of the shape */
+    SOMEIP_BAD_VALUE = 34        /* the text is no value of the shape, or none that a payload can have */
 };
 
 /* What a program holds of a node. Its fields are the library's own. */
@@ -87,6 +93,14 @@ typedef struct {
 } someip_handle;
 
 #define SOMEIP_HANDLE_INIT {false, NULL}
+
+/* What a node has at an endpoint of its own. */
+enum {
+    SOMEIP_AT_DISCOVERY = 1, /* Service Discovery: its address and port 30490 */
+    SOMEIP_AT_CLIENT = 2,    /* the client: its calls go out from here, answers and events come here */
+    SOMEIP_AT_INSTANCE = 3,  /* an instance that it offers */
+    SOMEIP_AT_GROUP = 4      /* the multicast group of Service Discovery: join it, and only receive here */
+};
 
 /* An IPv4 address, its four bytes as they are written, and a UDP port. */
 typedef struct {
@@ -151,9 +165,20 @@ typedef struct {
 /* Starts the node of a name in a setup (TOML, docs/RUNNING.md), and gives it to the handle, which must
  * have none. Its first Offers and Finds go out delay_ms after this: draw it at random, anew for each start
  * and restart, between the setup's initial_min and initial_max. The setup's own `delay` is not used.
+ * A liar of the setup is no node: NO_SUCH_NODE.
  * HELD, NOT_TEXT, NOT_TOML to CLASH, NO_SUCH_NODE, BAD_DELAY, OUT_OF_MEMORY; the handle is then as before. */
 uint32_t someip_start(someip_handle *node, const uint8_t *setup, size_t setup_length,
                       const uint8_t *name, size_t name_length, uint32_t delay_ms);
+
+/* Writes the least and the greatest delay_ms that a start of a node of the setup takes: draw it between them,
+ * both among them. NOT_TEXT, NOT_TOML to CLASH, OUT_OF_MEMORY: both are then as before. */
+uint32_t someip_delays(const uint8_t *setup, size_t setup_length, uint32_t *least_ms, uint32_t *greatest_ms);
+
+/* Writes one of the node's endpoints, by its index from 0, what is there, and of an instance its service and
+ * instance (0 else). They are in this order: Service Discovery, the client, the instances by rising service and
+ * instance, the group. CLOSED, and NOTHING_LEFT past the last, write nothing. */
+uint32_t someip_endpoint_at(someip_handle *node, size_t index, someip_endpoint *endpoint, uint32_t *kind,
+                            uint16_t *service, uint16_t *instance);
 
 /* Begins the node's life anew, with the same configuration; its peers see a reboot. A node that failed
  * works again. Forget all sessions and tokens. It takes no memory. CLOSED, OUTPUTS_WAIT, BAD_DELAY. */
@@ -187,7 +212,21 @@ uint32_t someip_next_due(someip_handle *node, uint64_t *due_ms);
  * how large the buffer must be, and the output waits on. */
 uint32_t someip_take(someip_handle *node, someip_output *output, uint8_t *buffer, size_t buffer_length);
 
+/* Writes the words by which a trace of `someipctl run` tells the next output, without the step's number and the
+ * node, and leaves the output to someip_take. A datagram that is sent is told with this number. The text is no
+ * C string: it goes to the front of the buffer, and text_length says how many bytes it has.
+ * CLOSED and NOTHING_LEFT write nothing, and so does NO_MEMORY. BUFFER_TOO_SMALL writes text_length alone. */
+uint32_t someip_next_text(someip_handle *node, size_t number, uint8_t *buffer, size_t buffer_length,
+                          size_t *text_length);
+
 /* ---- what the application does ---- */
+
+/* Does one step of a schedule (docs/RUNNING.md), which is written without the node, as `call 1111.0001 0421 0102`
+ * or `restart 10`: it is as the function of its name below, someip_restart or someip_call. BAD_STEP where the line
+ * is no step, or is of `tick`, `deliver` or `inject`. OUTPUTS_WAIT comes before it, NO_MEMORY may come in place of
+ * any other. PAYLOAD_TOO_LONG for a payload past the message limit, also where the call would be refused for
+ * another reason; never TOO_LONG. */
+uint32_t someip_do(someip_handle *node, const uint8_t *line, size_t length);
 
 /* Calls a method of an instance that the node wants. With waits an answer is awaited: SOMEIP_CALLED tells
  * its session. NOT_OFFERED, TOO_LONG, BUSY, by the first that holds. */
@@ -216,6 +255,43 @@ uint32_t someip_unsubscribe(someip_handle *node, uint16_t service, uint16_t inst
 
 /* Stops the offer of an instance until the next restart. NOT_OFFERED. */
 uint32_t someip_stop_offer(someip_handle *node, uint16_t service, uint16_t instance);
+
+/* ---- texts ----
+ *
+ * Each goes to the front of the buffer, with its length to text_length, and has no 0 at its end.
+ * BUFFER_TOO_SMALL writes text_length alone, and each other refusal nothing. */
+
+/* The name of an outcome, as NotOffered, and no text (text_length is 0) for a number that is none. */
+uint32_t someip_outcome_text(uint32_t outcome, uint8_t *buffer, size_t buffer_length, size_t *text_length);
+
+/* What a trace tells of a call with this outcome, as `refused NotOffered`, and no text where a trace has no such
+ * line: the call was done, the step was a bad one, or the node failed. */
+uint32_t someip_refusal_text(uint32_t outcome, uint8_t *buffer, size_t buffer_length, size_t *text_length);
+
+/* Why a text is no setup, in the words of `someipctl`, as `Missing group`, and no text where it is one.
+ * OUT_OF_MEMORY. */
+uint32_t someip_setup_fault(const uint8_t *setup, size_t setup_length, uint8_t *buffer, size_t buffer_length,
+                            size_t *text_length);
+
+/* The setup to play the log of a node again with: what all nodes of the setup share, the node of the name alone,
+ * with this delay, and for each peer's address (the ports are not looked at) a liar. The liars are named, in the
+ * order of the peers, by the first of p1, p2, .. that is not the node's name. NOT_TEXT, NOT_TOML to CLASH,
+ * NO_SUCH_NODE, BAD_DELAY, OUT_OF_RANGE for more than 63 peers, CLASH for a peer twice, at the node's own address
+ * or at the group's, and OUT_OF_MEMORY. */
+uint32_t someip_log_setup(const uint8_t *setup, size_t setup_length, const uint8_t *name, size_t name_length,
+                          uint32_t delay_ms, const someip_endpoint *peers, size_t peer_count,
+                          uint8_t *buffer, size_t buffer_length, size_t *text_length);
+
+/* The value of a payload as text, by a shape (docs/FORMATS.md): 41 a4 00 00 03 by the shape
+ * `struct(speed:f32,gear:u8{0=P,3=D})` is `(speed=20.5,gear=D)`. The value takes the whole payload.
+ * NOT_TEXT, BAD_SHAPE, BAD_PAYLOAD, OUT_OF_MEMORY. */
+uint32_t someip_payload_text(const uint8_t *shape, size_t shape_length, const uint8_t *payload, size_t payload_length,
+                             uint8_t *buffer, size_t buffer_length, size_t *text_length);
+
+/* The payload of a value that a text tells, by a shape: its bytes go to the front of the buffer.
+ * NOT_TEXT, BAD_SHAPE, BAD_VALUE, OUT_OF_MEMORY. */
+uint32_t someip_payload_bytes(const uint8_t *shape, size_t shape_length, const uint8_t *value, size_t value_length,
+                              uint8_t *buffer, size_t buffer_length, size_t *payload_length);
 
 #ifdef __cplusplus
 }

@@ -2,7 +2,7 @@
 use Rattle.std.proofs.Common.{◌≡◌, refl, sym, subst, ℕ}
 use Rattle.std.specs.Prelude.{List, Option, None, Some, IsSomeAnd}
 use Rattle.someip_c_node.specs.declared.outcome.Outcome.{Outcome}
-use Rattle.someip_c_node.specs.declared.outcome.Outcome.TheVariants.{Done, Closed, Held, OutputsWait, NothingLeft, BufferTooSmall, NothingDue, NotText, NotToml, Missing, WrongKind, OutOfRange, UnknownKey, Clash, NoSuchNode, BadDelay, ClockPast, NotWanted, Failed, OutOfMemory, NotOffered, Busy, TooLong, UnknownToken, BadErrorCode, UnknownEvent, NotSubscribed}
+use Rattle.someip_c_node.specs.declared.outcome.Outcome.TheVariants.{Done, Closed, Held, OutputsWait, NothingLeft, BufferTooSmall, NothingDue, NotText, NotToml, Missing, WrongKind, OutOfRange, UnknownKey, Clash, NoSuchNode, BadDelay, ClockPast, NotWanted, Failed, OutOfMemory, NotOffered, Busy, TooLong, UnknownToken, BadErrorCode, UnknownEvent, NotSubscribed, BadStep, PayloadTooLong, NoMemory, BadShape, BadPayload, BadValue}
 use Rattle.someip_c_node.specs.Calls.{CNodeView}
 use Rattle.someip_c_node.specs.Outcomes.{number_of, outcome_of}
 use Rattle.someip_node_rules.specs.histories.History.{History}
@@ -39,6 +39,12 @@ decodes UnknownToken = refl
 decodes BadErrorCode = refl
 decodes UnknownEvent = refl
 decodes NotSubscribed = refl
+decodes BadStep = refl
+decodes PayloadTooLong = refl
+decodes NoMemory = refl
+decodes BadShape = refl
+decodes BadPayload = refl
+decodes BadValue = refl
 
 pub tells : (P : Outcome → Type 0) (o : Outcome) → P o → Tells (number_of o) P
 tells P o p = subst (λ x. IsSomeAnd x P) (sym (decodes o)) p
@@ -72,3 +78,7 @@ on_lent old does number new c lent o c' was same is now d = on_node old does num
 -- something is due
 pub asks : (before due : ℕ) (lent : CNodeView) → ((h : History) → StandsFor lent.node h → IsNextDue h due) → (lent.node.tables ≡ None → Some due ≡ None) → Asks before due lent Done lent
 asks before due lent is failed = (refl, (is, (λ without. absurd (subst (λ o. IsSomeAnd o (λ _. Unit {0})) (failed without) tt))))
+
+-- a number tells an outcome of which this holds
+pub tells_of : (P : Outcome → Type 0) (number : ℕ) (o : Outcome) → number ≡ number_of o → P o → Tells number P
+tells_of P number o is p = subst (λ n. Tells n P) (sym is) (tells P o p)

@@ -1,3 +1,4 @@
 pub mod Owned
 pub mod Codes
 pub mod Handles
+pub mod Asking

@@ -1,6 +1,7 @@
 //! What the application does.
 ghost use Rattle.std.specs.Prelude.{◌≡◌};
 ghost use Rattle.someip_node_rules.specs.rules.Inputs as input;
+ghost use Rattle.someip_c_node.specs.Acts.{Acts};
 ghost use Rattle.someip_c_node.specs.Calls.{Calls};
 ghost use Rattle.someip_c_node.specs.Records.{socket_of};
 ghost use Rattle.someip_c.specs.Handles.{OnNode, call_kind, group_of, instance_of, reply_of};
@@ -12,6 +13,14 @@ use someip_c_node::{Endpoint, Outcome};
 use someip_rpc::{CallKind, Reply};
 use someip_wire::ReturnCode;
 use std::alloc::Global;
+
+/// Does the step of a schedule that a line spells without its node.
+#[unsafe(no_mangle)]
+pub extern "C" fn someip_do(alloc: Global, handle: &mut Handle, line: &[u8]) -> u32
+    ensures done { OnNode handle.old.place.value (Acts line.now) result handle.new.place.value }
+{
+    on_node!(handle, alloc, |node| node.act(alloc, line))
+}
 
 /// Calls a method of an instance that the node wants; with `waits`, an answer is awaited.
 #[unsafe(no_mangle)]

@@ -5,12 +5,14 @@
 #![tactic(auto)]
 
 mod applying;
+mod asking;
 mod handle;
 pub mod laws;
 mod lives;
 mod on_node;
 mod place;
 mod receiving;
+mod texts;
 mod version;
 
 pub use handle::Handle;

@@ -2,12 +2,14 @@
 ghost use Rattle.std.specs.Prelude.{◌≡◌, None};
 ghost use Rattle.someip_node_rules.specs.rules.Inputs as input;
 ghost use Rattle.someip_c_node.specs.Calls.{Calls, NeedsNoMemory, Takes};
+ghost use Rattle.someip_c_node.specs.Putting.{PutsMade};
 ghost use Rattle.someip_c_node.specs.Records.{socket_of};
+ghost use Rattle.someip_c_node.specs.Tellings.{TellsNext};
 ghost use Rattle.someip_c.specs.Handles.{Asks, OnNode};
 
 use crate::handle::Handle;
 use crate::on_node::on_node;
-use someip_c_node::{Endpoint, Outcome, OutputRecord};
+use someip_c_node::{Endpoint, Outcome, OutputRecord, put_made};
 use std::alloc::Global;
 
 /// Takes a datagram that came from an endpoint to another.
@@ -61,6 +63,28 @@ pub extern "C" fn someip_next_due(alloc: Global, handle: &mut Handle, due_ms: &m
         }
         None => Outcome::Closed.number(),
     }
+}
+
+/// Tells the next output in the words of a trace, at the front of the buffer. The output waits on.
+#[unsafe(no_mangle)]
+pub extern "C" fn someip_next_text(
+    alloc: Global,
+    handle: &mut Handle,
+    number: usize,
+    buffer: &mut [u8],
+    text_length: &mut usize,
+) -> u32
+    ensures told { OnNode handle.old.place.value
+        (λ old outcome new. (new ≡ old) × PutsMade (TellsNext number old.waiting) buffer.old
+        text_length.old outcome buffer.new text_length.new) result handle.new.place.value }
+    ensures closed { handle.old.place.value ≡ None
+        → (buffer.new ≡ buffer.old) × (text_length.new ≡ text_length.old) }
+{
+    on_node!(
+        handle,
+        alloc,
+        |node| put_made(&node.next_text(alloc, number), buffer, text_length)
+    )
 }
 
 /// Takes the next output: what it tells goes to the record, and its bytes to the front of the buffer.

@@ -3,13 +3,13 @@ use Rattle.std.proofs.Common.{◌≡◌, arith, refl, sym, ap, subst, ℕ, List,
 use Prim.Native.Nat.{suc}
 use Rattle.std.proofs.Math.Seq.{drop-cons}
 use Rattle.std.specs.List.{All, slice_index_or}
-use Rattle.std.specs.Prelude.{◌<◌, drop, length, Bool, true, false, bytes_eq, string_bytes, map, if◌then◌else◌, Option, None, Some, IsSomeAnd}
+use Rattle.std.specs.Prelude.{◌<◌, drop, length, Bool, true, false, bytes_eq, not, ◌&&◌, map, if◌then◌else◌, Option, None, Some, IsSomeAnd}
 use Rattle.someip_node_rules.specs.declared.config.Common.{Common}
 use Rattle.someip_world_setup_keys.specs.Made.{config_made, config_view}
 use Rattle.someip_world_setup.specs.NodesMade.{made_view, node_made}
 use Rattle.someip_world_setup_keys.specs.Values.{NodeValue}
 use Rattle.someip_world_setup.specs.declared.setup_node.SetupNode.{SetupNode}
-use Rattle.someip_c_node.specs.Texts.{first_named, named}
+use Rattle.someip_c_node.specs.Texts.{first_named, is_node_of, named}
 
 -- what the node that was found is made of, and what it is where none was found
 abbrev pub Agree : Common → Option SetupNode → Option NodeValue → Type 0
@@ -40,8 +40,8 @@ agree common name [] (v ∷ vs) e = absurd (subst IsCons (sym e) tt)
 agree common name (n ∷ ns) [] e = absurd (subst IsCons e tt)
 agree common name (n ∷ ns) (v ∷ vs) e =
     let same : made_view n ≡ node_made common v = ap (head_or (made_view n)) e in
-    let test : Bool = bytes_eq (string_bytes n.name) name in
-    subst (λ (b : Bool). Agree common (first_named name (n ∷ ns)) (if b then Some v else named name vs)) (ap (λ m. bytes_eq m.name name) same)
+    let test : Bool = is_node_of name n in
+    subst (λ (b : Bool). Agree common (first_named name (n ∷ ns)) (if b then Some v else named name vs)) (ap (λ m. bytes_eq m.name name && not m.is_liar) same)
     (chosen common n v (ap (λ m. m.config) same) (first_named name ns) (named name vs) (agree common name ns vs (ap tail_of e)) test)
 
 -- what holds of all holds of the one that was found
@@ -57,9 +57,9 @@ pub found_has : (P : SetupNode → Type 0) (name : List ℕ) (nodes : List Setup
 found_has P name [] all = tt
 found_has P name (n ∷ ns) all =
     holds_of P n (first_named name ns) (all 0 n (omega arith))
-    (found_has P name ns (λ k d less. all (suc k) d (omega (arith, less)))) (bytes_eq (string_bytes n.name) name)
+    (found_has P name ns (λ k d less. all (suc k) d (omega (arith, less)))) (is_node_of name n)
 
 -- among those from a place on, the node at the place comes first
 pub first_at : (name : List ℕ) (nodes : List SetupNode) (k : ℕ) (d : SetupNode) → k < length nodes
-    → first_named name (drop k nodes) ≡ (if bytes_eq (string_bytes (slice_index_or nodes k d).name) name then Some (slice_index_or nodes k d) else first_named name (drop (suc k) nodes))
+    → first_named name (drop k nodes) ≡ (if is_node_of name (slice_index_or nodes k d) then Some (slice_index_or nodes k d) else first_named name (drop (suc k) nodes))
 first_at name nodes k d less = ap (first_named name) (drop-cons nodes k d less)

@@ -1,7 +1,14 @@
 pub mod Outcomes
 pub mod Reasons
 pub mod Records
+pub mod Endpoints
+pub mod Putting
 pub mod Calls
+pub mod Acts
+pub mod Tellings
 pub mod Views
 pub mod Texts
+pub mod FaultWords
+pub mod LogSetups
 pub mod Starts
+pub mod PayloadTexts

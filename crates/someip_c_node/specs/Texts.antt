@@ -1,5 +1,5 @@
 -- The configuration of a node that a setup's text names.
-use Rattle.std.specs.Prelude.{◌≡◌, ℕ, true, bytes_eq, string_bytes, List, [], ◌∷◌, if◌then◌else◌, Option, None, Some, IsSomeAnd}
+use Rattle.std.specs.Prelude.{◌≡◌, ℕ, Bool, not, ◌&&◌, IsUtf8, true, bytes_eq, string_bytes, List, [], ◌∷◌, if◌then◌else◌, Option, None, Some, IsSomeAnd}
 use Rattle.toml.specs.Data.{Data}
 use Rattle.someip_node_rules.specs.trails.Copies.{IsCopy}
 use Rattle.someip_node_rules.specs.declared.config.Config.{Config}
@@ -11,19 +11,23 @@ use Rattle.someip_world_setup_keys.specs.KnownKeys.{has_unknown_key}
 use Rattle.someip_world_setup_keys.specs.Made.{config_made, config_view}
 use Rattle.someip_world_setup.specs.Readings.{setup_of_text, tree_of}
 use Rattle.someip_world_setup_keys.specs.SaidByKeys.{said_setup}
-use Rattle.someip_world_setup_keys.specs.Values.{NodeValue, SetupValue, common_view}
+use Rattle.someip_world_setup_keys.specs.Values.{CommonValue, NodeValue, SetupValue, common_view}
+use Rattle.someip_c_node.specs.declared.config.Delays.{Delays}
 use Rattle.someip_c_node.specs.declared.outcome.Outcome.{Outcome}
-use Rattle.someip_c_node.specs.declared.outcome.Outcome.TheVariants.{Clash, Missing, NoSuchNode, NotToml, OutOfMemory, OutOfRange, UnknownKey, WrongKind}
+use Rattle.someip_c_node.specs.declared.outcome.Outcome.TheVariants.{Clash, Missing, NoSuchNode, NotText, NotToml, OutOfMemory, OutOfRange, UnknownKey, WrongKind}
 
--- the node of a name, among those of a setup
+-- the node of a name, among those of a setup. A liar is none
 abbrev pub named : List ℕ → List NodeValue → Option NodeValue
 named name [] = None
-named name (node ∷ nodes) = if bytes_eq node.name name then Some node else named name nodes
+named name (node ∷ nodes) = if bytes_eq node.name name && not node.liar then Some node else named name nodes
 
 -- the same among the nodes that were made
+abbrev pub is_node_of : List ℕ → SetupNode → Bool
+is_node_of name node = bytes_eq (string_bytes node.name) name && not node.is_liar
+
 abbrev pub first_named : List ℕ → List SetupNode → Option SetupNode
 first_named name [] = None
-first_named name (node ∷ nodes) = if bytes_eq (string_bytes node.name) name then Some node else first_named name nodes
+first_named name (node ∷ nodes) = if is_node_of name node then Some node else first_named name nodes
 
 -- a configuration has the values that a setup says of a node, and those that all its nodes share
 abbrev pub IsConfigOf : SetupValue → NodeValue → Config → Type 0
@@ -40,6 +44,16 @@ IsConfigIn text name config = IsSomeAnd (setup_of_text text) (IsNamedIn name con
 -- it is a copy of that of the node of a name
 abbrev pub IsCopyIn : List ℕ → List SetupNode → Config → Type 0
 IsCopyIn name nodes config = IsSomeAnd (first_named name nodes) (λ node. IsCopy node.config config)
+
+-- ---- delays
+
+-- the least and the greatest delay before the first Offers and Finds
+abbrev pub delays_of : CommonValue → Delays
+delays_of common = record { least_ms = common.initial_min; greatest_ms = common.initial_max }
+
+-- those of the setup that a text says
+abbrev pub AreDelaysIn : List ℕ → Delays → Type 0
+AreDelaysIn text delays = IsSomeAnd (setup_of_text text) (λ said. delays ≡ delays_of said.common)
 
 -- ---- refusals
 
@@ -74,3 +88,9 @@ IsRefused text name OutOfMemory = Unit {0}
 IsRefused text name NoSuchNode = IsSomeAnd (setup_of_text text) (λ said. named name said.nodes ≡ None)
 IsRefused text name NotToml = (setup_of_text text ≡ None) × (tree_of text ≡ None)
 IsRefused text name outcome = (setup_of_text text ≡ None) × IsSomeAnd (tree_of text) (HasFaultOf outcome)
+
+-- a text says no setup: it is not UTF-8, or has the fault that is told, or memory ran out
+abbrev pub IsUnread : List ℕ → Outcome → Type 0
+IsUnread text NotText = IsUtf8 text → ⊥
+IsUnread text NoSuchNode = ⊥
+IsUnread text outcome = IsUtf8 text × IsRefused text [] outcome

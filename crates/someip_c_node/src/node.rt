@@ -1,15 +1,20 @@
 //! A node whose outputs are taken one after the other.
-ghost use Rattle.std.specs.Prelude.{◌≡◌, ◌≢◌, ◌≤◌, ◌<◌, ◌++◌, [], true, false, drop, length, None, Some, IfOk, IfErr, IfSome, IfNone, OnOk};
+ghost use Rattle.std.specs.Prelude.{◌≡◌, ◌≢◌, ◌≤◌, ◌<◌, ◌++◌, [], true, false, drop, length, slice_get, None, Some, IfOk, IfErr, IfSome, IfNone, OnOk};
+ghost use Rattle.std.specs.Option.{option_copied};
 ghost use Rattle.someip_node.specs.Refusals.{is_call_refusal};
 ghost use Rattle.someip_node_rules.specs.forms.GoodConfigs.{is_good, is_good_delay};
 ghost use Rattle.someip_node_rules.specs.histories.History.{History, start_of};
 ghost use Rattle.someip_node_rules.specs.rules.Inputs as input;
 ghost use Rattle.someip_node_rules.specs.steps.Steps.{StandsFor};
 ghost use Rattle.someip_node_rules.specs.steps.Waking.{IsNextDue, NothingIsDue};
+ghost use Rattle.someip_c_node.specs.Endpoints.{TellsEndpoint, endpoints_of, told_at};
 ghost use Rattle.someip_c_node.specs.Calls.{Calls, Keeps, NeedsNoMemory, Restarts, Takes};
 ghost use Rattle.someip_c_node.specs.declared.outcome.Outcome.TheVariants as outcome;
 
+use crate::endpoint::Endpoint;
 use crate::outcome::{Outcome, refusal};
+use crate::own_endpoint::own_endpoint;
+use crate::putting::copy_to_front;
 use crate::record::OutputRecord;
 use crate::record_of::{payload_of, record_of};
 use sd_core::{Eventgroup, InstanceId};
@@ -251,6 +256,47 @@ impl CNode {
         Outcome::Done
     }
 
+    /// Tells the endpoint at a place among those of the node, counted from 0, what is there, and of an
+    /// instance its service and instance, 0 else. They are Service Discovery, the client, the instances by
+    /// rising service and instance, and the multicast group. It is refused as `NothingLeft`.
+    pub fn tell_endpoint(
+        &self,
+        place: usize,
+        endpoint: &mut Endpoint,
+        kind: &mut u32,
+        service: &mut u16,
+        instance: &mut u16,
+    ) -> Outcome
+        ensures { TellsEndpoint (slice_get (endpoints_of self.now.node.config) place)
+            (told_at endpoint.old kind.old service.old instance.old) result
+            (told_at endpoint.new kind.new service.new instance.new) }
+    {
+        match own_endpoint(self.config(), place) {
+            Some(own) => {
+                *endpoint = Endpoint::of(&own.socket);
+                *kind = own.kind.number();
+                *service = own.instance.service;
+                *instance = own.instance.instance;
+                Outcome::Done
+            }
+            None => Outcome::NothingLeft,
+        }
+    }
+
+    /// What the node is set up with.
+    pub(crate) fn config(&self) -> &Config
+        ensures { result.now ≡ self.now.node.config }
+    {
+        self.node.config()
+    }
+
+    /// The output that is taken next.
+    pub(crate) fn next_output(&self) -> Option<&Output>
+        ensures { option_copied result ≡ slice_get self.now.waiting 0 }
+    {
+        self.outputs.as_slice().get(self.taken)
+    }
+
     /// Keeps what a call gave, so that it can be taken. Nothing waited before.
     fn keep(&mut self, given: Result<Vec<Output>, NodeError>) -> Outcome
         requires none { self.old.waiting ≡ [] }
@@ -266,19 +312,4 @@ impl CNode {
             Err(error) => refusal(error),
         }
     }
-}
-
-/// Copies bytes to the front of a buffer, if they fit, and says whether they do.
-fn copy_to_front(bytes: &[u8], buffer: &mut [u8]) -> bool
-    ensures fits { result ≡ true → (length bytes.now ≤ length buffer.old)
-        × (buffer.new ≡ bytes.now ++ drop (length bytes.now) buffer.old) }
-    ensures too_small { result ≡ false → (length buffer.old < length bytes.now)
-        × (buffer.new ≡ buffer.old) }
-{
-    if buffer.len() < bytes.len() {
-        return false;
-    }
-    let (front, _) = buffer.split_at_mut(bytes.len());
-    front.copy_from_slice(bytes);
-    true
 }

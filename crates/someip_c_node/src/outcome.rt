@@ -1,7 +1,8 @@
 //! How a call ended.
-ghost use Rattle.std.specs.Prelude.{◌≡◌, true, Some};
+ghost use Rattle.std.specs.Prelude.{◌≡◌, true, Some, slice_get};
+ghost use Rattle.std.specs.Option.{option_and_then};
 ghost use Rattle.someip_node.specs.Refusals.{is_call_refusal, is_rpc_refusal};
-ghost use Rattle.someip_c_node.specs.Outcomes.{number_of, refusal_outcome};
+ghost use Rattle.someip_c_node.specs.Outcomes.{number_of, outcome_name, outcome_of, refusal_outcome, refusal_text};
 ghost use Rattle.someip_node_rules.specs.declared.error.NodeError.TheVariants.{Rpc};
 
 use someip_node_rules::NodeError;
@@ -49,7 +50,7 @@ pub enum Outcome {
     NotWanted,
     /// Memory ran out in an earlier call, and the node was not restarted since.
     Failed,
-    /// Memory ran out: a node that was there has failed.
+    /// Memory ran out. A node whose call this was has failed; a call without one changed nothing.
     OutOfMemory,
     /// The instance is not offered.
     NotOffered,
@@ -65,7 +66,58 @@ pub enum Outcome {
     UnknownEvent,
     /// The endpoint has no such subscription.
     NotSubscribed,
+    /// The line is no step that a node does.
+    BadStep,
+    /// The payload of the step is longer than the message limit, which is judged before all else.
+    PayloadTooLong,
+    /// Memory ran out, and nothing has changed.
+    NoMemory,
+    /// The text is no shape, or no payload can have it.
+    BadShape,
+    /// The payload is not the bytes of a value of the shape.
+    BadPayload,
+    /// The text is no value of the shape, or none that a payload can have.
+    BadValue,
 }
+
+/// The outcomes by their numbers.
+const NUMBERED: [Option<Outcome>; 35] = [
+    Some(Outcome::Done),
+    Some(Outcome::Closed),
+    Some(Outcome::Held),
+    Some(Outcome::OutputsWait),
+    Some(Outcome::NothingLeft),
+    Some(Outcome::BufferTooSmall),
+    Some(Outcome::NothingDue),
+    Some(Outcome::NotText),
+    Some(Outcome::NotToml),
+    Some(Outcome::Missing),
+    Some(Outcome::WrongKind),
+    Some(Outcome::OutOfRange),
+    Some(Outcome::UnknownKey),
+    Some(Outcome::Clash),
+    Some(Outcome::NoSuchNode),
+    None,
+    Some(Outcome::BadDelay),
+    Some(Outcome::ClockPast),
+    Some(Outcome::NotWanted),
+    Some(Outcome::Failed),
+    Some(Outcome::OutOfMemory),
+    Some(Outcome::NotOffered),
+    Some(Outcome::Busy),
+    Some(Outcome::TooLong),
+    Some(Outcome::UnknownToken),
+    None,
+    Some(Outcome::BadErrorCode),
+    Some(Outcome::UnknownEvent),
+    Some(Outcome::NotSubscribed),
+    Some(Outcome::BadStep),
+    Some(Outcome::PayloadTooLong),
+    Some(Outcome::NoMemory),
+    Some(Outcome::BadShape),
+    Some(Outcome::BadPayload),
+    Some(Outcome::BadValue),
+];
 
 impl Outcome {
     /// The number by which C is told.
@@ -73,6 +125,80 @@ impl Outcome {
         ensures { result ≡ number_of self }
     {
         self as u32
+    }
+
+    /// The outcome that a number tells, if it tells one.
+    pub fn of_number(number: u32) -> Option<Outcome>
+        ensures { result ≡ outcome_of number }
+    {
+        outcome_at(&NUMBERED, number)
+    }
+
+    /// Its name.
+    pub fn name(self) -> &'static str
+        ensures { result.now ≡ outcome_name self }
+    {
+        match self {
+            Outcome::Done => "Done",
+            Outcome::Closed => "Closed",
+            Outcome::Held => "Held",
+            Outcome::OutputsWait => "OutputsWait",
+            Outcome::NothingLeft => "NothingLeft",
+            Outcome::BufferTooSmall => "BufferTooSmall",
+            Outcome::NothingDue => "NothingDue",
+            Outcome::NotText => "NotText",
+            Outcome::NotToml => "NotToml",
+            Outcome::Missing => "Missing",
+            Outcome::WrongKind => "WrongKind",
+            Outcome::OutOfRange => "OutOfRange",
+            Outcome::UnknownKey => "UnknownKey",
+            Outcome::Clash => "Clash",
+            Outcome::NoSuchNode => "NoSuchNode",
+            Outcome::BadDelay => "BadDelay",
+            Outcome::ClockPast => "ClockPast",
+            Outcome::NotWanted => "NotWanted",
+            Outcome::Failed => "Failed",
+            Outcome::OutOfMemory => "OutOfMemory",
+            Outcome::NotOffered => "NotOffered",
+            Outcome::Busy => "Busy",
+            Outcome::TooLong => "TooLong",
+            Outcome::UnknownToken => "UnknownToken",
+            Outcome::BadErrorCode => "BadErrorCode",
+            Outcome::UnknownEvent => "UnknownEvent",
+            Outcome::NotSubscribed => "NotSubscribed",
+            Outcome::BadStep => "BadStep",
+            Outcome::PayloadTooLong => "PayloadTooLong",
+            Outcome::NoMemory => "NoMemory",
+            Outcome::BadShape => "BadShape",
+            Outcome::BadPayload => "BadPayload",
+            Outcome::BadValue => "BadValue",
+        }
+    }
+
+    /// What a trace tells of a call that ended so, and no text where it has no line of it.
+    pub fn refusal_text(self) -> &'static str
+        ensures { result.now ≡ refusal_text self }
+    {
+        match self {
+            Outcome::NotWanted => "refused NotWanted",
+            Outcome::NotOffered => "refused NotOffered",
+            Outcome::Busy => "refused Busy",
+            Outcome::UnknownToken => "refused UnknownToken",
+            Outcome::BadErrorCode => "refused BadErrorCode",
+            Outcome::UnknownEvent => "refused UnknownEvent",
+            Outcome::NotSubscribed => "refused NotSubscribed",
+            _ => "",
+        }
+    }
+}
+
+/// What stands at a place, if anything does.
+fn outcome_at(numbered: &[Option<Outcome>], place: u32) -> Option<Outcome>
+    ensures { result ≡ option_and_then (λ outcome. outcome) (slice_get numbered.now place) }
+{
+    match numbered.get(place as usize) {
+        Some(outcome) => *outcome,
+        None => None,
     }
 }
 
