@@ -5,7 +5,7 @@ import os
 import zipfile
 
 HERE = os.path.dirname(os.path.abspath(__file__))
-MODULES = ("__init__.py", "network.py", "node.py")
+MODULES = ("__init__.py", "network.py", "node.py", "payload.py")
 
 
 def _version():

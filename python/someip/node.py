@@ -24,6 +24,18 @@ class Endpoint(NamedTuple):
     port: int
 
 
+class Place(NamedTuple):
+    """An endpoint of a node, and what is there: `kind` of someip.h.
+
+    Of an instance it has the service and the instance, else 0.
+    """
+
+    endpoint: Endpoint
+    kind: int
+    service: int
+    instance: int
+
+
 # ---- Outputs: what a call of a node gives
 
 
@@ -198,6 +210,12 @@ UnknownToken = _error(24, "UNKNOWN_TOKEN")
 BadErrorCode = _error(26, "BAD_ERROR_CODE")
 UnknownEvent = _error(27, "UNKNOWN_EVENT")
 NotSubscribed = _error(28, "NOT_SUBSCRIBED")
+BadStep = _error(29, "BAD_STEP")
+PayloadTooLong = _error(30, "PAYLOAD_TOO_LONG")
+NoMemory = _error(31, "NO_MEMORY")
+BadShape = _error(32, "BAD_SHAPE")
+BadPayload = _error(33, "BAD_PAYLOAD")
+BadValue = _error(34, "BAD_VALUE")
 
 ERRORS = {error.number: error for error in SomeipError.__subclasses__()}
 
@@ -252,6 +270,10 @@ _U64 = _number(ctypes.c_uint64)
 _HANDLE = ctypes.POINTER(_Handle)
 _AT = ctypes.POINTER(_Endpoint)
 _BYTES = (ctypes.c_char_p, ctypes.c_size_t)
+_SIZE = ctypes.POINTER(ctypes.c_size_t)
+_OUT = (*_BYTES, _SIZE)
+_OUT_16 = ctypes.POINTER(ctypes.c_uint16)
+_OUT_32 = ctypes.POINTER(ctypes.c_uint32)
 
 # The version of the library that this module is written for.
 VERSION = 1
@@ -259,12 +281,17 @@ VERSION = 1
 FUNCTIONS = {
     "someip_version": (),
     "someip_start": (_HANDLE, *_BYTES, *_BYTES, _U32),
+    "someip_delays": (*_BYTES, _OUT_32, _OUT_32),
+    "someip_endpoint_at": (_HANDLE, ctypes.c_size_t, _AT, _OUT_32, _OUT_16,
+                           _OUT_16),
     "someip_restart": (_HANDLE, _U32),
     "someip_close": (_HANDLE,),
     "someip_on_datagram": (_HANDLE, _AT, _AT, *_BYTES),
     "someip_tick": (_HANDLE, _U64),
     "someip_next_due": (_HANDLE, ctypes.POINTER(ctypes.c_uint64)),
     "someip_take": (_HANDLE, ctypes.POINTER(_Output), *_BYTES),
+    "someip_next_text": (_HANDLE, ctypes.c_size_t, *_OUT),
+    "someip_do": (_HANDLE, *_BYTES),
     "someip_call": (_HANDLE, ctypes.c_bool, _U16, _U16, _U16, *_BYTES),
     "someip_answer": (_HANDLE, _U64, ctypes.c_bool, _U8, *_BYTES),
     "someip_publish": (_HANDLE, _U16, _U16, _U16, *_BYTES),
@@ -272,6 +299,12 @@ FUNCTIONS = {
     "someip_subscribe": (_HANDLE, _U16, _U16, _U16),
     "someip_unsubscribe": (_HANDLE, _U16, _U16, _U16),
     "someip_stop_offer": (_HANDLE, _U16, _U16),
+    "someip_outcome_text": (_U32, *_OUT),
+    "someip_refusal_text": (_U32, *_OUT),
+    "someip_setup_fault": (*_BYTES, *_OUT),
+    "someip_log_setup": (*_BYTES, *_BYTES, _U32, _AT, ctypes.c_size_t, *_OUT),
+    "someip_payload_text": (*_BYTES, *_BYTES, *_OUT),
+    "someip_payload_bytes": (*_BYTES, *_BYTES, *_OUT),
 }
 
 
@@ -315,6 +348,37 @@ def _in_c(endpoint):
     return _Endpoint(tuple(packed), _U16.from_param(port))
 
 
+def _endpoint_of(endpoint):
+    """An endpoint of the library."""
+    address = ipaddress.IPv4Address(bytes(endpoint.address))
+    return Endpoint(str(address), endpoint.port)
+
+
+def _written(function, *arguments):
+    """The bytes that a function of the library writes."""
+    buffer, length = ctypes.create_string_buffer(256), ctypes.c_size_t()
+    while True:
+        outcome = function(*arguments, buffer, len(buffer), length)
+        if outcome != BufferTooSmall.number:
+            _must(outcome)
+            return buffer[:length.value]
+        buffer = ctypes.create_string_buffer(length.value)
+
+
+def delays(setup):
+    """The least and the greatest delay_ms that a start of a node takes."""
+    text = setup.encode()
+    least, greatest = ctypes.c_uint32(), ctypes.c_uint32()
+    _must(_LIBRARY.someip_delays(text, len(text), least, greatest))
+    return least.value, greatest.value
+
+
+def setup_fault(setup):
+    """Why a text is no setup, as `Missing group`; empty where it is one."""
+    text = setup.encode()
+    return _written(_LIBRARY.someip_setup_fault, text, len(text)).decode()
+
+
 def _output_of(record, payload):
     """An output, of what the library wrote."""
     kind = KINDS[record.kind - 1]
@@ -322,8 +386,7 @@ def _output_of(record, payload):
     for name in kind._fields:
         value = getattr(record, name.rstrip("_"), payload)
         if isinstance(value, _Endpoint):
-            address = ipaddress.IPv4Address(bytes(value.address))
-            value = Endpoint(str(address), value.port)
+            value = _endpoint_of(value)
         values.append(value)
     return kind(*values)
 
@@ -354,6 +417,28 @@ class Node:
 
     def __exit__(self, *_):
         self.close()
+
+    def places(self):
+        """Its endpoints: Service Discovery, client, instances, group."""
+        places = []
+        while True:
+            at, kind = _Endpoint(), ctypes.c_uint32()
+            service, instance = ctypes.c_uint16(), ctypes.c_uint16()
+            outcome = _LIBRARY.someip_endpoint_at(
+                self._handle, len(places), at, kind, service, instance)
+            if outcome == NothingLeft.number:
+                return places
+            _must(outcome)
+            places.append(Place(_endpoint_of(at), kind.value, service.value,
+                                instance.value))
+
+    def do(self, step):
+        """Does a step of a schedule, written without the node.
+
+        As `call 1111.0001 0421 0102`: the call of the same name.
+        """
+        words = step.encode()
+        return self._given(_LIBRARY.someip_do(self._handle, words, len(words)))
 
     def restart(self, delay_ms):
         """Begins the node's life anew. Forget all sessions and tokens."""

@@ -230,5 +230,54 @@ class TestErrors(Bench):
             self.client.call(0x11111, INSTANCE, METHOD)
 
 
+class TestSteps(Bench):
+    """Steps as a schedule writes them, and what a node says of itself."""
+
+    def test_a_step_is_the_call_of_its_name(self):
+        self.discover()
+        (called, request) = self.client.do("call 1111.0001 0421 0102")
+        self.assertEqual(called, someip.Called(SERVICE, METHOD, 1))
+        (given,) = carry([request], self.server)
+        self.assertEqual((given.token, given.payload), (1, b"\1\2"))
+        (answer,) = self.server.do("answer 1 00 03*3")
+        self.assertEqual(carry([answer], self.client),
+                         [someip.Answered(SERVICE, METHOD, 1, 0, b"\3\3\3")])
+
+    def test_what_is_no_step_is_refused(self):
+        for step, error in (
+                ("jump", someip.BadStep), ("", someip.BadStep),
+                ("tick 5", someip.BadStep), ("deliver 1", someip.BadStep),
+                ("inject 5 1.2.3.4:5 -", someip.BadStep),
+                ("call 1111.0001 8421 -", someip.BadStep),
+                ("restart 9", someip.BadDelay),
+                ("answer 7 00 -", someip.UnknownToken),
+                ("call 1111.0001 0421 00*100001", someip.PayloadTooLong),
+                ("call 2222.0001 0421 00*100001", someip.PayloadTooLong),
+                ("call 2222.0001 0421 -", someip.NotOffered),
+                ("subscribe 1111.0002 0001", someip.NotWanted)):
+            with self.assertRaises(error, msg=step):
+                self.client.do(step)
+
+    def test_its_places(self):
+        discovery, client = (
+            someip.Place(someip.Endpoint("192.168.0.1", port), kind, 0, 0)
+            for port, kind in ((30490, 1), (40000, 2)))
+        self.assertEqual(self.server.places(), [
+            discovery, client, someip.Place(SERVER, 3, SERVICE, INSTANCE),
+            someip.Place(someip.Endpoint("239.0.0.1", 30490), 4, 0, 0)])
+
+    def test_its_delays_and_faults_of_setups(self):
+        self.assertEqual(someip.delays(SETUP), (10, 100))
+        self.assertEqual(someip.setup_fault(SETUP), "")
+        for old, new, fault in (
+                ('group = "239.0.0.1"', "", "Missing group"),
+                ("port = 30509", "port = 0", "OutOfRange port"),
+                ("[[node]]", "[[node", "NotToml -")):
+            self.assertEqual(someip.setup_fault(SETUP.replace(old, new, 1)),
+                             fault)
+        with self.assertRaises(someip.Missing):
+            someip.delays("")
+
+
 if __name__ == "__main__":
     unittest.main()

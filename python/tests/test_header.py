@@ -22,6 +22,9 @@ TYPES = {"bool": ctypes.c_bool, "void *": ctypes.c_void_p,
          "uint32_t": ctypes.c_uint32, "uint64_t": ctypes.c_uint64,
          "size_t": ctypes.c_size_t, "uint8_t *": ctypes.c_char_p,
          "uint64_t *": ctypes.POINTER(ctypes.c_uint64),
+         "uint32_t *": ctypes.POINTER(ctypes.c_uint32),
+         "uint16_t *": ctypes.POINTER(ctypes.c_uint16),
+         "size_t *": ctypes.POINTER(ctypes.c_size_t),
          "uint8_t[4]": ctypes.c_uint8 * 4, **STRUCTS,
          **{f"{it} *": ctypes.POINTER(kind) for it, kind in STRUCTS.items()}}
 
@@ -45,7 +48,8 @@ class TestHeader(unittest.TestCase):
         with open(HEADER, encoding="utf-8") as file:
             self.header = re.sub(r"/\*.*?\*/", "", file.read(), flags=re.S)
         self.numbers = {name: int(number) for name, number in re.findall(
-            r"\bSOMEIP_(\w+) = (\d+)", self.header)}
+            r"\bSOMEIP_(\w+) = (\d+)", self.header)
+            if not name.startswith("AT_")}
 
     def test_the_numbers_are_those_of_the_header(self):
         names = {error.name: error.number for error in someip.ERRORS.values()}
@@ -73,6 +77,14 @@ class TestHeader(unittest.TestCase):
                 r"^uint32_t (\w+)\((.*?)\);", self.header, re.M | re.S)}
         self.assertEqual({name: [plain(it) for it in types] for name, types
                           in someip.FUNCTIONS.items()}, functions)
+
+    def test_a_wheel_has_each_module(self):
+        top = os.path.join(os.path.dirname(os.path.abspath(__file__)), "..")
+        with open(os.path.join(top, "backend.py"), encoding="utf-8") as file:
+            listed = re.search(r"MODULES = \((.*?)\)", file.read(), re.S)[1]
+        modules = {name for name in os.listdir(os.path.join(top, "someip"))
+                   if name.endswith(".py")}
+        self.assertEqual(set(re.findall(r'"(.*?)"', listed)), modules)
 
 
 if __name__ == "__main__":
