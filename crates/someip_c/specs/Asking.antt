@@ -6,7 +6,7 @@ use Rattle.someip_c_node.specs.declared.outcome.Outcome.TheVariants.{Done, OutOf
 use Rattle.someip_c_node.specs.FaultWords.{TellsFault}
 use Rattle.std.specs.Global.{Vec}
 use Rattle.someip_c_node.specs.LogSetups.{IsLogOf, IsNoLog}
-use Rattle.someip_c_node.specs.PayloadTexts.{IsFaultOfValue, SpellsValue, TellsValue}
+use Rattle.someip_c_node.specs.PayloadTexts.{SpellsNoValue, SpellsValue, TellsNoValue, TellsValue}
 use Rattle.someip_c_node.specs.declared.endpoint.Endpoint.{Endpoint}
 use Rattle.someip_c_node.specs.Texts.{AreDelaysIn, IsUnread}
 
@@ -28,9 +28,9 @@ TellsLog text name delay peers (Err outcome) = IsNoLog text name delay peers out
 -- the value of a payload is told, or why there is none
 abbrev pub TellsPayload : List ℕ → List ℕ → Result (String Global) Outcome → Type 0
 TellsPayload shape payload (Ok text) = TellsValue shape payload (string_bytes text)
-TellsPayload shape payload (Err outcome) = IsFaultOfValue outcome
+TellsPayload shape payload (Err outcome) = TellsNoValue shape payload outcome
 
 -- the payload of a value is given, or it is told why there is none
 abbrev pub SpellsPayload : List ℕ → List ℕ → Result (Vec ℕ) Outcome → Type 0
 SpellsPayload shape text (Ok bytes) = SpellsValue shape text bytes.items
-SpellsPayload shape text (Err outcome) = IsFaultOfValue outcome
+SpellsPayload shape text (Err outcome) = SpellsNoValue shape text outcome

@@ -42,6 +42,20 @@ const FAULTS: &[(&[u8], &[u8], Outcome, &[u8], Outcome)] = &[
     ),
     (b"u8", &[], Outcome::BadPayload, b"\xff", Outcome::NotText),
     (b"u7", &[1], Outcome::BadShape, b"1", Outcome::BadShape),
+    (
+        b"fixed<0,u8>",
+        &[],
+        Outcome::BadShape,
+        b"[]",
+        Outcome::BadShape,
+    ),
+    (
+        b"array<1,u8>",
+        &[0, 0, 0, 2, 7, 7],
+        Outcome::BadPayload,
+        b"[7,7]",
+        Outcome::BadValue,
+    ),
     (b"\xff", &[1], Outcome::NotText, b"1", Outcome::NotText),
 ];
 
