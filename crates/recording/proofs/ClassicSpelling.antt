@@ -10,7 +10,7 @@ use Rattle.recording.specs.declared.number.ByteOrder.TheVariants.{Big, Little}
 use Rattle.recording.specs.declared.classic.Classic as declared_classic
 use Rattle.recording.specs.declared.format.Format.TheVariants.{Classic}
 use Rattle.recording.specs.Numbers.{number32}
-use Rattle.recording.specs.Packets.{RecordValue}
+use Rattle.recording.specs.Captured.{RecordValue}
 use Rattle.recording.specs.Classic.{classic_in, header_in, packet_fault, packet_len, packet_record}
 use Rattle.recording.specs.Records.{Item, items_from, items_behind, items_of, format_of, or_fault, part_meaning}
 use Rattle.recording.specs.Spelling.{bytes32, PacketValue, PacketFits, packet_bytes, header_bytes, given_by, EndsAt, IsClassic, classic_list}
@@ -41,6 +41,7 @@ record IsHead (o : ByteOrder) (k : PacketValue) (bytes rest : List ℕ) : Type 0
   pub seconds : number32 o bytes 0 ≡ k.seconds
   pub fraction : number32 o bytes 4 ≡ k.fraction
   pub captured : number32 o bytes 8 ≡ length k.bytes
+  pub original : number32 o bytes 12 ≡ k.original
   pub len : length bytes ≡ 16 + length k.bytes + length rest
   pub behind : drop 16 bytes ≡ k.bytes ++ rest
 
@@ -49,6 +50,7 @@ head_read Big k rest fits = record {
   seconds = from_be_bytes-to_be_bytes_4 k.seconds fits.seconds;
   fraction = from_be_bytes-to_be_bytes_4 k.fraction fits.fraction;
   captured = from_be_bytes-to_be_bytes_4 (length k.bytes) fits.captured;
+  original = from_be_bytes-to_be_bytes_4 k.original fits.original;
   len = omega (arith, length-append k.bytes rest);
   behind = refl;
 }
@@ -56,6 +58,7 @@ head_read Little k rest fits = record {
   seconds = from_le_bytes-to_le_bytes_4 k.seconds fits.seconds;
   fraction = from_le_bytes-to_le_bytes_4 k.fraction fits.fraction;
   captured = from_le_bytes-to_le_bytes_4 (length k.bytes) fits.captured;
+  original = from_le_bytes-to_le_bytes_4 k.original fits.original;
   len = omega (arith, length-append k.bytes rest);
   behind = refl;
 }
@@ -73,7 +76,7 @@ packet_fault-spelled c p k bytes rest h =
 packet_record-spelled : (c : declared_classic.Classic) (k : PacketValue) (bytes rest : List ℕ) → IsHead c.order k bytes rest → packet_record c bytes ≡ given_by c k
 packet_record-spelled c k bytes rest h =
     let captured : take (length k.bytes + 16 - 16) (drop 16 bytes) ≡ k.bytes = rw h.behind (take_at k.bytes rest _ (omega arith)) in
-    rw (h.captured, captured, h.seconds, h.fraction) refl
+    rw (h.captured, captured, h.seconds, h.fraction, h.original) refl
 
 -- what is known of a packet as it is spelled, and the bytes after it
 pub record PacketStep (c : declared_classic.Classic) (k : PacketValue) (bytes others : List ℕ) : Type 0 where

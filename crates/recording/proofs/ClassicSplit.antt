@@ -51,6 +51,7 @@ packet_fits c bytes fits w = record {
   seconds = number32-fits c.order bytes 0 fits;
   fraction = number32-fits c.order bytes 4 fits;
   captured = omega (arith, length-range bytes 16 (packet_len c bytes) w.whole, number32-fits c.order bytes 8 fits);
+  original = number32-fits c.order bytes 12 fits;
 }
 
 -- ---- the packets

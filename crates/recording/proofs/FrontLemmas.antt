@@ -17,7 +17,7 @@ use Rattle.recording.specs.declared.format.Format.TheVariants.{Classic, Blocks}
 use Rattle.recording.specs.declared.interface.Interface.{Interface}
 use Rattle.recording.specs.Numbers.{number32}
 use Rattle.recording.specs.Times.{classic_time}
-use Rattle.recording.specs.Packets.{RecordValue, record_of}
+use Rattle.recording.specs.Captured.{RecordValue}
 use Rattle.recording.specs.Classic.{header_in, classic_in, packet_len, packet_fault, packet_record}
 use Rattle.recording.specs.Blocks.{BlockValue, kind_of, block_kind, magic_order, block_order, order_in, total_len, closing_len, block_fault, block_in}
 use Rattle.recording.specs.Sections.{Meaning, meaning_of, interfaces_after}
@@ -142,12 +142,26 @@ packet_none c p bytes le within = rw (le-ltb (length bytes) 16 le, le-ltb (lengt
 packet_len-front : (c : declared_classic.Classic) (w r : List ℕ) → 16 ≤ length w → packet_len c (w ++ r) ≡ packet_len c w
 packet_len-front c w r le = ap (λ n. n + 16) (number32-front c.order w r 8 (omega (arith, le)))
 
+-- a packet by its parts
+abbrev packet_by : declared_classic.Classic → ℕ → ℕ → ℕ → List ℕ → RecordValue
+packet_by c seconds fraction original bytes = record {
+  time = Some (classic_time (cond c.micro 1000 1) seconds fraction);
+  interface = 0;
+  link = c.link;
+  original = original;
+  bytes = bytes;
+}
+
 packet-front : (c : declared_classic.Classic) (w r : List ℕ) → 16 ≤ length w → packet_len c w ≤ length w → packet_record c (w ++ r) ≡ packet_record c w
 packet-front c w r le within =
-    ap (λ n. record_of (Some (classic_time (cond c.micro 1000 1) n (number32 c.order (w ++ r) 4))) c.link (slice_range (w ++ r) 16 (packet_len c (w ++ r)))) (number32-front c.order w r 0 (omega (arith, le)))
-    ∙ ap (λ n. record_of (Some (classic_time (cond c.micro 1000 1) (number32 c.order w 0) n)) c.link (slice_range (w ++ r) 16 (packet_len c (w ++ r)))) (number32-front c.order w r 4 (omega (arith, le)))
-    ∙ ap (λ n. record_of (Some (classic_time (cond c.micro 1000 1) (number32 c.order w 0) (number32 c.order w 4))) c.link (slice_range (w ++ r) 16 n)) (packet_len-front c w r le)
-    ∙ ap (λ b. record_of (Some (classic_time (cond c.micro 1000 1) (number32 c.order w 0) (number32 c.order w 4))) c.link b) (range-front w r 16 (packet_len c w) le within)
+    let s = number32-front c.order w r 0 (omega (arith, le)) in
+    let f = number32-front c.order w r 4 (omega (arith, le)) in
+    let o = number32-front c.order w r 12 (omega (arith, le)) in
+    ap (λ n. packet_by c n (number32 c.order (w ++ r) 4) (number32 c.order (w ++ r) 12) (slice_range (w ++ r) 16 (packet_len c (w ++ r)))) s
+    ∙ ap (λ n. packet_by c (number32 c.order w 0) n (number32 c.order (w ++ r) 12) (slice_range (w ++ r) 16 (packet_len c (w ++ r)))) f
+    ∙ ap (λ n. packet_by c (number32 c.order w 0) (number32 c.order w 4) n (slice_range (w ++ r) 16 (packet_len c (w ++ r)))) o
+    ∙ ap (λ n. packet_by c (number32 c.order w 0) (number32 c.order w 4) (number32 c.order w 12) (slice_range (w ++ r) 16 n)) (packet_len-front c w r le)
+    ∙ ap (packet_by c (number32 c.order w 0) (number32 c.order w 4) (number32 c.order w 12)) (range-front w r 16 (packet_len c w) le within)
 
 -- ---- what is told of the length
 

@@ -3,7 +3,7 @@ use Rattle.std.proofs.Common.{ℕ, zero, suc, ◌+◌, Bool, true, false, cond, 
 use Rattle.recording.specs.declared.error.RecordingError.TheVariants.{BlockTooLong, TooManyInterfaces}
 use Rattle.recording.specs.declared.format.Format.{Format}
 use Rattle.recording.specs.declared.interface.Interface.{Interface}
-use Rattle.recording.specs.Packets.{RecordValue}
+use Rattle.recording.specs.Captured.{RecordValue}
 use Rattle.recording.specs.Sections.{Meaning}
 use Rattle.recording.specs.Records.{Item, part_len, part_meaning, format_after, section_after, items_after, items_within, items_behind, items_of, format_of}
 use Rattle.recording.specs.Held.{interface_limit, is_too_long, with_interfaces, held_meaning}

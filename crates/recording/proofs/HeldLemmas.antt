@@ -10,7 +10,7 @@ use Rattle.recording.specs.declared.parts.Part.{Part}
 use Rattle.recording.specs.Sections.{Meaning}
 use Rattle.recording.specs.Steps.{Fails, IsLast}
 use Rattle.recording.specs.View.{given_in, packet_behind, LiesIn}
-use Rattle.recording.specs.Packets.{RecordValue}
+use Rattle.recording.specs.Captured.{RecordValue}
 use Rattle.recording.specs.Records.{Item, part_len, format_after, section_after, items_after}
 use Rattle.recording.specs.Held.{held_meaning}
 use Rattle.recording.specs.HeldItems.{held_from}

@@ -1,14 +1,15 @@
 -- A packet is read as it is spelled.
 use Rattle.std.proofs.Common.{◌≡◌, ℕ, ◌+◌, ◌-◌, ◌*◌, ◌/◌, ◌%◌, ◌^◌, ◌<◌, ◌≤◌, Bool, true, false, cond, ltb, eqb, List, [], ◌∷◌, ◌++◌, length, get_or, take, drop, None, Ok, refl, sym, ap, subst, ◌∙◌, append_assoc, arith, inl, inr}
-use Rattle.std.specs.Prelude.{slice_range}
+use Rattle.std.specs.Prelude.{nat_le, slice_range}
 use Rattle.std.specs.Int.{w16, to_be_bytes}
-use Rattle.std.proofs.lemmas.Bool.{le-ltb, eq-eqb}
+use Rattle.std.proofs.lemmas.Bool.{le-ltb, le-leb, eq-eqb}
 use Rattle.std.proofs.lemmas.List.{take_at, drop_at, drop-drop, length-append}
 use Rattle.std.proofs.lemmas.Nat.{from_be_bytes-to_be_bytes_2}
 use Rattle.recording.specs.Numbers.{network16}
-use Rattle.recording.specs.Packets.{DatagramValue, is_tag, after_tag, ethernet_protocol, network_at, network_place, header_len, total_len, ipv4_fault, udp_fault, carried_in, datagram_in}
+use Rattle.recording.specs.Packets.{DatagramValue, is_tag, after_tag, ethernet_protocol, network_at, network_place, header_len, total_len, is_cut, ipv4_fault, ipv4_of, is_fragment, udp_len, is_udp, CarriedValue, datagram, datagram_of, carried_by, carried_in}
 use Rattle.recording.specs.PacketSpelling.{Tag, TagFits, tag_bytes, LinkHeader, ethernet, tagged, twice_tagged, cooked, cooked_2, raw, raw_ipv4, link_type, link_bytes, LinkFits, Free, udp_bytes, ip_header_len, ip_len, ip_bytes, Fits, Carries}
-use Rattle.recording.proofs.PacketLemmas.{datagram_in-udp}
+use Rattle.recording.proofs.FieldSpelling.{length-range}
+use Rattle.recording.proofs.PacketLemmas.{carried_in-ipv4, datagram_at, datagram_of-at, udp_at, udp_len-at}
 
 -- ---- numbers
 
@@ -175,28 +176,34 @@ ipv4_fault-spelled f d ip h =
     let long : ltb (length ip) 20 ≡ false = le-ltb _ _ (omega (arith, h.len)) in
     let four : eqb (get_or ip 0 0 / 16) 4 ≡ true = eq-eqb _ _ h.version in
     let least : ltb (ip_header_len f) 20 ≡ false = le-ltb _ _ (omega arith) in
-    let whole : eqb (network16 ip 6 % 0x4000) 0 ≡ true = eq-eqb _ _ h.whole in
-    let udp : eqb (get_or ip 9 0) 17 ≡ true = eq-eqb _ _ h.protocol in
     let header : ltb (length ip) (ip_header_len f) ≡ false = le-ltb _ _ (omega (arith, h.len)) in
     let total : ltb (length ip) (ip_len f d) ≡ false = le-ltb _ _ h.len in
-    rw (long, four, h.header, least, whole, udp, header, h.total, total) refl
+    rw (long, four, h.header, least, header, h.total, total) refl
 
-udp_fault-spelled : (f : Free) (d : DatagramValue) (ip : List ℕ) → IsIp f d ip → udp_fault ip ≡ None
-udp_fault-spelled f d ip h =
-    let room : ltb (ip_len f d) (ip_header_len f + 8) ≡ false = le-ltb _ _ (omega arith) in
-    let least : ltb (8 + length d.payload) 8 ≡ false = le-ltb _ _ (omega arith) in
-    let within : ltb (ip_len f d) (ip_header_len f + (8 + length d.payload)) ≡ false = le-ltb _ _ (omega arith) in
-    rw (h.header, h.total, room, h.size, least, within) refl
+datagram_at-spelled : (f : Free) (d : DatagramValue) (ip : List ℕ) → IsIp f d ip → datagram_at d.time ip ≡ d
+datagram_at-spelled f d ip h = rw (h.header, h.from, h.to, h.from_port, h.to_port, h.size, h.payload) refl
 
-carried_in-spelled : (f : Free) (d : DatagramValue) (ip : List ℕ) → IsIp f d ip → carried_in d.time ip ≡ d
-carried_in-spelled f d ip h = rw (h.header, h.from, h.to, h.from_port, h.to_port, h.size, h.payload) refl
+carried_by-spelled : (f : Free) (d : DatagramValue) (ip : List ℕ) → IsIp f d ip → carried_by d.time (ipv4_of ip) ≡ datagram d
+carried_by-spelled f d ip h =
+    let udp : eqb (get_or ip 9 0) 17 ≡ true = eq-eqb _ _ h.protocol in
+    let whole : eqb (network16 ip 6 % 0x4000) 0 ≡ true = eq-eqb _ _ h.whole in
+    let at : udp_at ip ≡ 8 + length d.payload = ap (λ n. network16 ip (n + 4)) h.header ∙ h.size in
+    let room : header_len ip + 8 ≤ total_len ip = omega (arith, h.header, h.total) in
+    let within : header_len ip + udp_at ip ≤ total_len ip = omega (arith, h.header, h.total, at) in
+    let size = udp_len-at ip room in
+    let len : length (ipv4_of ip).payload ≡ total_len ip - header_len ip = length-range ip (header_len ip) (total_len ip) (omega (arith, h.total, h.len)) in
+    let least : nat_le 8 (udp_len (ipv4_of ip).payload) ≡ true = le-leb _ _ (omega (arith, size, at)) in
+    let most : nat_le (udp_len (ipv4_of ip).payload) (length (ipv4_of ip).payload) ≡ true = le-leb _ _ (omega (arith, size, len, within)) in
+    let is : datagram_of d.time (ipv4_of ip) ≡ d = datagram_of-at d.time ip room (omega (arith, at)) within ∙ datagram_at-spelled f d ip h in
+    rw (udp, whole, least, most) (ap (λ (v : DatagramValue). datagram v) is)
 
-pub packet_is_read : (link : ℕ) (packet : List ℕ) (d : DatagramValue) → Carries link packet d → datagram_in d.time link packet ≡ Ok d
+pub packet_is_read : (link : ℕ) (packet : List ℕ) (d : DatagramValue) → Carries link packet d → carried_in d.time link packet ≡ datagram d
 packet_is_read link packet d h =
     let ip = ip_bytes h.free d ++ h.padding in
     let place = length (link_bytes h.header) in
     let facts = ip_read h.free d h.padding h.fits in
     let at : network_place link packet ≡ Ok place = rw (h.is_link, h.is) (place_read h.header ip h.link_fits) in
     let behind : drop place packet ≡ ip = ap (drop place) h.is ∙ drop_at (link_bytes h.header) ip place refl in
-    datagram_in-udp d.time link packet place None at (ap ipv4_fault behind ∙ ipv4_fault-spelled h.free d ip facts) (ap udp_fault behind ∙ udp_fault-spelled h.free d ip facts)
-    ∙ ap (λ (v : DatagramValue). Ok v) (ap (carried_in d.time) behind ∙ carried_in-spelled h.free d ip facts)
+    carried_in-ipv4 d.time link packet place at (ap ipv4_fault behind ∙ ipv4_fault-spelled h.free d ip facts)
+    ∙ ap (λ (b : List ℕ). carried_by d.time (ipv4_of b)) behind
+    ∙ carried_by-spelled h.free d ip facts

@@ -2,18 +2,19 @@
 use Rattle.std.proofs.Common.{◌≡◌, ℕ, ◌+◌, ◌-◌, ◌*◌, ◌/◌, ◌%◌, ◌^◌, ◌<◌, ◌≤◌, Bool, true, false, cond, not, ltb, eqb, List, [], ◌∷◌, ◌++◌, length, get_or, drop, Option, Some, None, Result, Ok, Err, refl, sym, ap, subst, ◌∙◌, append_assoc, arith, inl, inr}
 use Rattle.std.specs.Prelude.{◌⊎◌, ◌||◌, slice_range}
 use Rattle.std.specs.Int.{w16, to_be_bytes}
-use Rattle.std.proofs.lemmas.Bool.{ltb-false, eqb-true}
+use Rattle.std.proofs.lemmas.Bool.{and_parts, leb-true, ltb-false, eqb-true}
 use Rattle.std.proofs.lemmas.List.{drop_more, get_or-drop, get_or-take}
 use Rattle.std.proofs.lemmas.List.Folds.{drop_split}
 use Rattle.std.proofs.lemmas.Nat.{be_bytes_2}
 use Rattle.recording.specs.declared.time.Time.{Time}
 use Rattle.recording.specs.declared.record.Skipped.{Skipped}
-use Rattle.recording.specs.declared.record.Skipped.TheVariants.{LinkType, NotIpv4, Fragment, NotUdp, Cut, BadUdpLength}
+use Rattle.recording.specs.declared.record.Skipped.TheVariants.{LinkType, NotIpv4, NotUdp, Cut, BadUdpLength}
 use Rattle.recording.specs.Numbers.{network16}
-use Rattle.recording.specs.Packets.{DatagramValue, is_tag, after_tag, ethernet_protocol, network_at, network_place, header_len, total_len, ipv4_fault, udp_len, udp_fault, carried_in, first_fault, or_skipped, datagram_from, datagram_in}
+use Rattle.recording.specs.Packets.{DatagramValue, is_tag, after_tag, ethernet_protocol, network_at, network_place, CarriedValue, datagram, fragment, nothing, header_len, total_len, ipv4_fault, ipv4_of, or_skipped, ipv4_from, udp_len, is_udp, datagram_of, carried_from, carried_in}
 use Rattle.recording.specs.PacketSpelling.{Tag, TagFits, tag_bytes, LinkHeader, ethernet, tagged, twice_tagged, cooked, cooked_2, raw, raw_ipv4, link_type, link_bytes, LinkFits, Free, udp_bytes, ip_header_len, ip_len, ip_bytes, Fits, Carries}
 use Rattle.recording.specs.Spelling.{IsBytes}
 use Rattle.recording.proofs.FieldSpelling.{IsBytes-drop, IsBytes-range, length-range}
+use Rattle.recording.proofs.PacketLemmas.{udp_at, datagram_at, udp_len-at, datagram_of-at}
 use Rattle.recording.proofs.PacketReading.{flat}
 
 -- ---- fields
@@ -196,6 +197,13 @@ under link packet place false false false false false fits is_a is_b is_d is_e i
 
 -- ---- IPv4 and UDP
 
+-- the lengths of whole packets
+record IsWholeIpv4 (ip : List ℕ) : Type 0 where
+  pub fixed : 20 ≤ length ip
+  pub version : get_or ip 0 0 / 16 ≡ 4
+  pub header : 20 ≤ header_len ip
+  pub total : total_len ip ≤ length ip
+
 -- the lengths and the numbers of whole packets with whole datagrams
 record IsWhole (ip : List ℕ) : Type 0 where
   pub fixed : 20 ≤ length ip
@@ -204,39 +212,60 @@ record IsWhole (ip : List ℕ) : Type 0 where
   pub unbroken : network16 ip 6 % 0x4000 ≡ 0
   pub protocol : get_or ip 9 0 ≡ 17
   pub total : total_len ip ≤ length ip
-  pub least : 8 ≤ udp_len ip
-  pub within : header_len ip + udp_len ip ≤ total_len ip
+  pub least : 8 ≤ udp_at ip
+  pub within : header_len ip + udp_at ip ≤ total_len ip
 
-udp_told : (ip : List ℕ) (a b d : Bool) → ltb (total_len ip) (header_len ip + 8) ≡ a → ltb (udp_len ip) 8 ≡ b → ltb (total_len ip) (header_len ip + udp_len ip) ≡ d
-    → cond a (Some BadUdpLength) (cond b (Some BadUdpLength) (cond d (Some BadUdpLength) None)) ≡ None
-    → (8 ≤ udp_len ip) × (header_len ip + udp_len ip ≤ total_len ip)
-udp_told ip true b d is_a is_b is_d is = absurd cc
-udp_told ip false true d is_a is_b is_d is = absurd cc
-udp_told ip false false true is_a is_b is_d is = absurd cc
-udp_told ip false false false is_a is_b is_d is = (ltb-false _ _ is_b, ltb-false _ _ is_d)
+ip_told : (ip : List ℕ) (cut : Skipped) (a b d g h : Bool)
+    → ltb (length ip) 20 ≡ a → eqb (get_or ip 0 0 / 16) 4 ≡ b → ltb (header_len ip) 20 ≡ d → ltb (length ip) (header_len ip) ≡ g → ltb (length ip) (total_len ip) ≡ h
+    → cond a (Some NotIpv4) (cond (not b) (Some NotIpv4) (cond d (Some NotIpv4) (cond (g || h) (Some cut) None))) ≡ None
+    → IsWholeIpv4 ip
+ip_told ip cut true b d g h is_a is_b is_d is_g is_h is = absurd cc
+ip_told ip cut false false d g h is_a is_b is_d is_g is_h is = absurd cc
+ip_told ip cut false true true g h is_a is_b is_d is_g is_h is = absurd cc
+ip_told ip cut false true false true h is_a is_b is_d is_g is_h is = absurd cc
+ip_told ip cut false true false false true is_a is_b is_d is_g is_h is = absurd cc
+ip_told ip cut false true false false false is_a is_b is_d is_g is_h is =
+    record { fixed = ltb-false _ _ is_a; version = eqb-true _ _ is_b; header = ltb-false _ _ is_d; total = ltb-false _ _ is_h }
 
-ip_told : (ip : List ℕ) (a b d e f g h : Bool) → (8 ≤ udp_len ip) × (header_len ip + udp_len ip ≤ total_len ip)
-    → ltb (length ip) 20 ≡ a → eqb (get_or ip 0 0 / 16) 4 ≡ b → ltb (header_len ip) 20 ≡ d → eqb (network16 ip 6 % 0x4000) 0 ≡ e → eqb (get_or ip 9 0) 17 ≡ f
-    → ltb (length ip) (header_len ip) ≡ g → ltb (length ip) (total_len ip) ≡ h
-    → cond a (Some NotIpv4) (cond (not b) (Some NotIpv4) (cond d (Some NotIpv4) (cond (not e) (Some Fragment) (cond (not f) (Some NotUdp) (cond g (Some Cut) (cond h (Some Cut) None)))))) ≡ None
-    → IsWhole ip
-ip_told ip true b d e f g h udp is_a is_b is_d is_e is_f is_g is_h is = absurd cc
-ip_told ip false false d e f g h udp is_a is_b is_d is_e is_f is_g is_h is = absurd cc
-ip_told ip false true true e f g h udp is_a is_b is_d is_e is_f is_g is_h is = absurd cc
-ip_told ip false true false false f g h udp is_a is_b is_d is_e is_f is_g is_h is = absurd cc
-ip_told ip false true false true false g h udp is_a is_b is_d is_e is_f is_g is_h is = absurd cc
-ip_told ip false true false true true true h udp is_a is_b is_d is_e is_f is_g is_h is = absurd cc
-ip_told ip false true false true true false true udp is_a is_b is_d is_e is_f is_g is_h is = absurd cc
-ip_told ip false true false true true false false udp is_a is_b is_d is_e is_f is_g is_h is = record {
-  fixed = ltb-false _ _ is_a;
-  version = eqb-true _ _ is_b;
-  header = ltb-false _ _ is_d;
-  unbroken = eqb-true _ _ is_e;
-  protocol = eqb-true _ _ is_f;
-  total = ltb-false _ _ is_h;
-  least = udp.0;
-  within = udp.1;
-}
+-- a whole packet that carries a datagram
+record IsCarrier (time : Option Time) (ip : List ℕ) (d : DatagramValue) : Type 0 where
+  pub protocol : get_or ip 9 0 ≡ 17
+  pub unbroken : network16 ip 6 % 0x4000 ≡ 0
+  pub udp : is_udp (ipv4_of ip).payload ≡ true
+  pub is : datagram_of time (ipv4_of ip) ≡ d
+
+carrier_told : (time : Option Time) (ip : List ℕ) (d : DatagramValue) (f e u : Bool)
+    → eqb (get_or ip 9 0) 17 ≡ f → eqb (network16 ip 6 % 0x4000) 0 ≡ e → is_udp (ipv4_of ip).payload ≡ u
+    → cond (not f) (nothing NotUdp) (cond (not e) fragment (cond u (datagram (datagram_of time (ipv4_of ip))) (nothing BadUdpLength))) ≡ datagram d
+    → IsCarrier time ip d
+carrier_told time ip d false e u is_f is_e is_u is = absurd cc
+carrier_told time ip d true false u is_f is_e is_u is = absurd cc
+carrier_told time ip d true true false is_f is_e is_u is = absurd cc
+carrier_told time ip d true true true is_f is_e is_u is = record { protocol = eqb-true _ _ is_f; unbroken = eqb-true _ _ is_e; udp = is_u; is = cc }
+
+-- both together
+whole_of : (time : Option Time) (ip : List ℕ) (d : DatagramValue) → IsWholeIpv4 ip → IsCarrier time ip d → IsWhole ip × (datagram_at time ip ≡ d)
+whole_of time ip d w k =
+    let parts = and_parts _ _ k.udp in
+    let least : 8 ≤ udp_len (ipv4_of ip).payload = leb-true _ _ parts.0 in
+    let most : udp_len (ipv4_of ip).payload ≤ length (ipv4_of ip).payload = leb-true _ _ parts.1 in
+    let len : length (ipv4_of ip).payload ≡ total_len ip - header_len ip = length-range ip (header_len ip) (total_len ip) w.total in
+    let room : header_len ip + 8 ≤ total_len ip = omega (arith, least, most, len) in
+    let size = udp_len-at ip room in
+    let low : 8 ≤ udp_at ip = omega (arith, least, size) in
+    let within : header_len ip + udp_at ip ≤ total_len ip = omega (arith, least, most, len, size) in (
+      record {
+        fixed = w.fixed;
+        version = w.version;
+        header = w.header;
+        unbroken = k.unbroken;
+        protocol = k.protocol;
+        total = w.total;
+        least = low;
+        within = within;
+      },
+      sym (datagram_of-at time ip room low within) ∙ k.is,
+    )
 
 -- what is not looked at
 abbrev free_in : List ℕ → Free
@@ -248,7 +277,7 @@ free_in ip = record {
   checksum = (get_or ip 10 0, get_or ip 11 0);
   options = slice_range ip 20 (header_len ip);
   udp_checksum = (get_or ip (header_len ip + 6) 0, get_or ip (header_len ip + 7) 0);
-  behind = slice_range ip (header_len ip + udp_len ip) (total_len ip);
+  behind = slice_range ip (header_len ip + udp_at ip) (total_len ip);
 }
 
 -- the two bytes of the fragment's field
@@ -260,14 +289,14 @@ unbroken_bytes ip fits is =
 
 record IsLengths (ip : List ℕ) (d : DatagramValue) : Type 0 where
   pub header : ip_header_len (free_in ip) ≡ header_len ip
-  pub udp : 8 + length d.payload ≡ udp_len ip
+  pub udp : 8 + length d.payload ≡ udp_at ip
   pub total : ip_len (free_in ip) d ≡ total_len ip
 
-lengths : (time : Option Time) (ip : List ℕ) → IsWhole ip → IsLengths ip (carried_in time ip)
+lengths : (time : Option Time) (ip : List ℕ) → IsWhole ip → IsLengths ip (datagram_at time ip)
 lengths time ip w =
     let options = length-range ip 20 (header_len ip) (omega (arith, w.within, w.total)) in
-    let payload = length-range ip (header_len ip + 8) (header_len ip + udp_len ip) (omega (arith, w.within, w.total)) in
-    let behind = length-range ip (header_len ip + udp_len ip) (total_len ip) w.total in
+    let payload = length-range ip (header_len ip + 8) (header_len ip + udp_at ip) (omega (arith, w.within, w.total)) in
+    let behind = length-range ip (header_len ip + udp_at ip) (total_len ip) w.total in
     record {
       header = omega (arith, options, w.header);
       udp = omega (arith, payload, w.least);
@@ -276,11 +305,11 @@ lengths time ip w =
 
 -- UDP, and what stands after it
 udp_spells : (time : Option Time) (ip : List ℕ) → IsBytes ip → IsWhole ip
-    → udp_bytes (free_in ip) (carried_in time ip) ++ ((free_in ip).behind ++ drop (total_len ip) ip) ≡ drop (header_len ip) ip
+    → udp_bytes (free_in ip) (datagram_at time ip) ++ ((free_in ip).behind ++ drop (total_len ip) ip) ≡ drop (header_len ip) ip
 udp_spells time ip fits w =
     let h = header_len ip in
-    let u = udp_len ip in
-    let d = carried_in time ip in
+    let u = udp_at ip in
+    let d = datagram_at time ip in
     let long : h + 8 ≤ length ip = omega (arith, w.within, w.least, w.total) in
     let sizes = lengths time ip w in
     let behind : (free_in ip).behind ++ drop (total_len ip) ip ≡ drop (h + u) ip = sym (drop_split ip (h + u) (total_len ip) w.within) in
@@ -293,11 +322,11 @@ udp_spells time ip fits w =
     spells2 ip _ h d.from.port fits (omega (arith, long)) refl to
 
 -- the packet, and what stands after it
-ip_spells : (time : Option Time) (ip : List ℕ) → IsBytes ip → IsWhole ip → ip_bytes (free_in ip) (carried_in time ip) ++ drop (total_len ip) ip ≡ ip
+ip_spells : (time : Option Time) (ip : List ℕ) → IsBytes ip → IsWhole ip → ip_bytes (free_in ip) (datagram_at time ip) ++ drop (total_len ip) ip ≡ ip
 ip_spells time ip fits w =
     let h = header_len ip in
     let f = free_in ip in
-    let d = carried_in time ip in
+    let d = datagram_at time ip in
     let sizes = lengths time ip w in
     let len = w.fixed in
     let unbroken = unbroken_bytes ip fits w.unbroken in
@@ -318,7 +347,7 @@ ip_spells time ip fits w =
     let b0 = spells1 ip _ 0 (64 + ip_header_len f / 4) (omega (arith, len)) (omega (arith, sizes.header, w.version)) b1 in
     flat f d (drop (total_len ip) ip) ∙ b0
 
-ip_fits : (time : Option Time) (ip : List ℕ) → IsBytes ip → IsWhole ip → Fits (free_in ip) (carried_in time ip)
+ip_fits : (time : Option Time) (ip : List ℕ) → IsBytes ip → IsWhole ip → Fits (free_in ip) (datagram_at time ip)
 ip_fits time ip fits w =
     let sizes = lengths time ip w in
     let options = length-range ip 20 (header_len ip) (omega (arith, w.within, w.total)) in
@@ -335,12 +364,12 @@ ip_fits time ip fits w =
 
 -- ---- the packet
 
--- the packet carries the datagram, recorded at this time
+-- the datagram stands in the packet, recorded at this time
 abbrev pub Found : Option Time → ℕ → List ℕ → DatagramValue → Type 0
 Found time link packet d = Carries link packet d × (d.time ≡ time)
 
 carried : (time : Option Time) (link : ℕ) (packet : List ℕ) (place : ℕ) → IsBytes packet → IsUnder link packet place → IsWhole (drop place packet)
-    → Carries link packet (carried_in time (drop place packet))
+    → Carries link packet (datagram_at time (drop place packet))
 carried time link packet place fits under w =
     let ip = drop place packet in
     let bytes = IsBytes-drop place packet fits in
@@ -354,20 +383,20 @@ carried time link packet place fits under w =
       fits = ip_fits time ip bytes w;
     }
 
-told : (time : Option Time) (link : ℕ) (packet : List ℕ) (place : ℕ) (d : DatagramValue) (one other : Option Skipped) → IsBytes packet → IsUnder link packet place
-    → ipv4_fault (drop place packet) ≡ one → udp_fault (drop place packet) ≡ other → or_skipped (first_fault one other) (carried_in time (drop place packet)) ≡ Ok d → Found time link packet d
-told time link packet place d (Some e) other fits under is_one is_other is = absurd cc
-told time link packet place d None (Some e) fits under is_one is_other is = absurd cc
-told time link packet place d None None fits under is_one is_other is =
-    let same : carried_in time (drop place packet) ≡ d = cc in
-    let w = ip_told (drop place packet) _ _ _ _ _ _ _ (udp_told (drop place packet) _ _ _ refl refl refl is_other) refl refl refl refl refl refl refl is_one in
-    subst (Found time link packet) same (carried time link packet place fits under w, refl)
+told : (time : Option Time) (link : ℕ) (packet : List ℕ) (place : ℕ) (d : DatagramValue) (fault : Option Skipped) → IsBytes packet → IsUnder link packet place
+    → ipv4_fault (drop place packet) ≡ fault → carried_from time (or_skipped fault (ipv4_of (drop place packet))) ≡ datagram d → Found time link packet d
+told time link packet place d (Some e) fits under is_fault is = absurd cc
+told time link packet place d None fits under is_fault is =
+    let ip = drop place packet in
+    let w = ip_told ip _ _ _ _ _ _ refl refl refl refl refl is_fault in
+    let both = whole_of time ip d w (carrier_told time ip d _ _ _ refl refl refl is) in
+    subst (Found time link packet) both.1 (carried time link packet place fits under both.0, refl)
 
 from_place : (time : Option Time) (link : ℕ) (packet : List ℕ) (d : DatagramValue) (r : Result ℕ Skipped) → IsBytes packet → network_place link packet ≡ r
-    → datagram_from time packet r ≡ Ok d → Found time link packet d
+    → carried_from time (ipv4_from packet r) ≡ datagram d → Found time link packet d
 from_place time link packet d (Err e) fits at is = absurd cc
 from_place time link packet d (Ok place) fits at is =
-    told time link packet place d _ _ fits (under link packet place _ _ _ _ _ fits refl refl refl refl refl at) refl refl is
+    told time link packet place d _ fits (under link packet place _ _ _ _ _ fits refl refl refl refl refl at) refl is
 
-pub packet_is_split : (time : Option Time) (link : ℕ) (packet : List ℕ) (d : DatagramValue) → IsBytes packet → datagram_in time link packet ≡ Ok d → Found time link packet d
+pub packet_is_split : (time : Option Time) (link : ℕ) (packet : List ℕ) (d : DatagramValue) → IsBytes packet → carried_in time link packet ≡ datagram d → Found time link packet d
 packet_is_split time link packet d fits is = from_place time link packet d _ fits refl is

@@ -3,7 +3,9 @@ use Rattle.std.proofs.Common.{◌≡◌, ℕ, ◌+◌, ◌-◌, ◌≤◌, List,
 use Rattle.std.specs.Prelude.{slice_range, option_map}
 use Rattle.std.proofs.lemmas.List.{drop-drop, drop-take, take-take, take_all, take-append-le, take-append-drop, length-take}
 use Rattle.recording.specs.declared.packet.Packet.{Packet}
-use Rattle.recording.specs.Packets.{record_of}
+use Rattle.recording.specs.Captured.{RecordValue}
+use Rattle.std.specs.Int.{w16, from_be_bytes}
+use Rattle.recording.specs.Numbers.{network16}
 use Rattle.recording.specs.View.{given_in, packet_behind, LiesIn}
 
 -- a range of a front that holds it
@@ -26,6 +28,10 @@ range-range xs from to i j le within =
 length-range-le : (xs : List ℕ) (from to : ℕ) → length (slice_range xs from to) ≤ to - from
 length-range-le xs from to = let h = length-take (to - from) (drop from xs) in omega (arith, h)
 
+-- a packet with these bytes
+abbrev captured_at : Packet → List ℕ → RecordValue
+captured_at k bytes = record { time = k.time; interface = k.interface; link = k.link; original = k.original; bytes = bytes }
+
 -- a packet that lies in a range gives what it gives where it lies in the whole
 pub given-behind : (xs body : List ℕ) (from to : ℕ) (packet : Option Packet) → body ≡ slice_range xs from to → from ≤ to → LiesIn body packet
     → given_in body packet ≡ given_in xs (option_map (packet_behind from) packet)
@@ -33,8 +39,16 @@ given-behind xs body from to None is le lies = refl
 given-behind xs body from to (Some k) is le lies =
     let short = length-range-le xs from to in
     let room : length body ≤ to - from = rw is short in
-    ap (λ (captured : List ℕ). Some (record_of k.time k.link captured))
+    ap (λ (captured : List ℕ). Some (captured_at k captured))
     (ap (λ (b : List ℕ). slice_range b k.start k.end) is ∙ range-range xs from to k.start k.end lies.0 (omega (arith, le, room, lies.1)))
+
+-- ---- numbers in a range
+
+-- a number in a range of bytes is one of the bytes
+pub network16-range : (bytes : List ℕ) (from to i : ℕ) → from + (i + 2) ≤ to → network16 (slice_range bytes from to) i ≡ network16 bytes (i + from)
+network16-range bytes from to i within =
+    let next : (i + 2) + from ≡ (i + from) + 2 = omega arith in
+    ap (λ (b : List ℕ). from_be_bytes w16 b) (range-range bytes from to i (i + 2) (omega arith) within ∙ ap (λ k. slice_range bytes (i + from) k) next)
 
 -- a front, and what stands after a part of it
 pub take-both : (i m : ℕ) (xs : List ℕ) → take (i + m) xs ≡ take i xs ++ take m (drop i xs)

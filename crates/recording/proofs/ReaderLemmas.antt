@@ -12,7 +12,7 @@ use Rattle.recording.specs.declared.reader.Next.{Next}
 use Rattle.recording.specs.declared.reader.Next.TheVariants.{Record, Unread, End}
 use Rattle.recording.specs.declared.stage.Stage.TheVariants.{Head}
 use Rattle.recording.specs.Steps.{IsLast}
-use Rattle.recording.specs.Packets.{RecordValue}
+use Rattle.recording.specs.Captured.{RecordValue}
 use Rattle.recording.specs.View.{record_at, given_in, packet_behind, LiesIn}
 use Rattle.recording.specs.Records.{Item, items_after}
 use Rattle.recording.specs.Held.{held_limit, wanted, LacksBytes}

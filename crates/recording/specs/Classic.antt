@@ -8,7 +8,7 @@ use Rattle.recording.specs.declared.classic.Classic.{Classic}
 use Rattle.recording.specs.declared.time.Time.{Time}
 use Rattle.recording.specs.Numbers.{number32}
 use Rattle.recording.specs.Times.{classic_time}
-use Rattle.recording.specs.Packets.{RecordValue, record_of}
+use Rattle.recording.specs.Captured.{RecordValue}
 
 -- the header of a file whose numbers stand in this order, with microseconds or nanoseconds. The link type is the lower
 -- half of its number.
@@ -39,6 +39,12 @@ packet_fault c p bytes =
 abbrev pub packet_time : Classic → List ℕ → Time
 packet_time c bytes = classic_time (if c.micro then 1000 else 1) (number32 c.order bytes 0) (number32 c.order bytes 4)
 
--- the record of the packet at the front
+-- the packet at the front. Its file has one interface.
 abbrev pub packet_record : Classic → List ℕ → RecordValue
-packet_record c bytes = record_of (Some (packet_time c bytes)) c.link (slice_range bytes 16 (packet_len c bytes))
+packet_record c bytes = record {
+  time = Some (packet_time c bytes);
+  interface = 0;
+  link = c.link;
+  original = number32 c.order bytes 12;
+  bytes = slice_range bytes 16 (packet_len c bytes);
+}

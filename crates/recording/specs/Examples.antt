@@ -1,8 +1,8 @@
 -- Bytes that the laws speak of as examples.
-use Rattle.std.specs.Prelude.{ℕ, true, List, [], ◌∷◌, ◌++◌, take, Some, Ok}
+use Rattle.std.specs.Prelude.{ℕ, true, List, [], ◌∷◌, ◌++◌, take, drop, Some, None, Ok}
 use Rattle.recording.specs.declared.number.ByteOrder.TheVariants.{Little}
 use Rattle.recording.specs.declared.classic.Classic.{Classic}
-use Rattle.recording.specs.Packets.{datagram}
+use Rattle.recording.specs.Packets.{CarriedValue, datagram}
 use Rattle.recording.specs.Records.{Item}
 use Rattle.recording.specs.Spelling.{PacketValue, SpelledBlock, head, plain}
 
@@ -11,14 +11,43 @@ abbrev pub sent_bytes : List ℕ
 sent_bytes =
     0x45 ∷ 0 ∷ 0 ∷ 0x1f ∷ 0x12 ∷ 0x34 ∷ 0x40 ∷ 0 ∷ 0x40 ∷ 0x11 ∷ 0 ∷ 0 ∷ 0xc0 ∷ 0xa8 ∷ 0 ∷ 1 ∷ 0xc0 ∷ 0xa8 ∷ 0 ∷ 2 ∷ 0x77 ∷ 0x1a ∷ 0x77 ∷ 0x25 ∷ 0 ∷ 0x0b ∷ 0 ∷ 0 ∷ 1 ∷ 2 ∷ 3 ∷ []
 
--- that datagram, recorded so many seconds and nanoseconds after 1970
+-- that packet, recorded so many seconds and nanoseconds after 1970
 abbrev pub sent_at : ℕ → ℕ → Item
-sent_at s n = Ok (datagram (record {
+sent_at s n = Ok (record {
   time = Some (record { seconds = s; nanoseconds = n });
+  interface = 0;
+  link = 228;
+  original = 31;
+  bytes = sent_bytes;
+})
+
+-- the datagram that it carries
+abbrev pub sent_datagram : CarriedValue
+sent_datagram = datagram (record {
+  time = None;
   from = record { ip = 192 ∷ 168 ∷ 0 ∷ 1 ∷ []; port = 30490 };
   to = record { ip = 192 ∷ 168 ∷ 0 ∷ 2 ∷ []; port = 30501 };
   payload = 1 ∷ 2 ∷ 3 ∷ [];
-}))
+})
+
+-- the same bytes as a fragment, which more follow, as those of TCP, and as the recorder would cut them
+abbrev pub more_bytes : List ℕ
+more_bytes = take 6 sent_bytes ++ 0x20 ∷ drop 7 sent_bytes
+
+abbrev pub tcp_bytes : List ℕ
+tcp_bytes = take 9 sent_bytes ++ 6 ∷ drop 10 sent_bytes
+
+abbrev pub short_bytes : List ℕ
+short_bytes = take 30 sent_bytes
+
+-- the same bytes with a UDP Length of 7
+abbrev pub no_room_bytes : List ℕ
+no_room_bytes = take 25 sent_bytes ++ 7 ∷ drop 26 sent_bytes
+
+-- a frame of Ethernet with two VLAN tags, of IDs 100 and 7, before them
+abbrev pub tagged_bytes : List ℕ
+tagged_bytes =
+    1 ∷ 0 ∷ 0x5e ∷ 0 ∷ 0 ∷ 1 ∷ 2 ∷ 0 ∷ 0 ∷ 0 ∷ 0 ∷ 1 ∷ 0x88 ∷ 0xa8 ∷ 0xe0 ∷ 100 ∷ 0x81 ∷ 0 ∷ 0 ∷ 7 ∷ 0x08 ∷ 0 ∷ sent_bytes
 
 -- classic pcap with microseconds, the lowest byte first, whose packets are raw IPv4: its header, and the head of a
 -- packet, 5 seconds and 7 microseconds

@@ -1,5 +1,6 @@
 pub mod Numbers
 pub mod Times
+pub mod Captured
 pub mod Packets
 pub mod Classic
 pub mod Blocks

@@ -7,7 +7,7 @@ use Rattle.recording.specs.declared.stage.Stage.{Stage}
 use Rattle.recording.specs.declared.stage.Stage.TheVariants.{Head, Inside, Over}
 use Rattle.recording.specs.declared.reader.Next.{Next}
 use Rattle.recording.specs.declared.reader.Next.TheVariants.{Record, Unread, End}
-use Rattle.recording.specs.Packets.{RecordValue}
+use Rattle.recording.specs.Captured.{RecordValue}
 use Rattle.recording.specs.Records.{Item, format_of, DescribesInterface}
 use Rattle.recording.specs.Held.{held_limit, interface_limit, wanted, LacksBytes}
 use Rattle.recording.specs.HeldItems.{held_from, held_behind}

@@ -8,7 +8,7 @@ use Rattle.recording.specs.declared.format.Format.{Format}
 use Rattle.recording.specs.declared.format.Format.TheVariants.{Classic, Blocks}
 use Rattle.recording.specs.declared.interface.Interface.{Interface}
 use Rattle.recording.specs.Numbers.{number32}
-use Rattle.recording.specs.Packets.{RecordValue}
+use Rattle.recording.specs.Captured.{RecordValue}
 use Rattle.recording.specs.Classic.{classic_in, packet_len, packet_fault, packet_record}
 use Rattle.recording.specs.Blocks.{block_len, block_fault, block_in, order_in}
 use Rattle.recording.specs.Sections.{Meaning, IsDescription, meaning_of, interfaces_after}

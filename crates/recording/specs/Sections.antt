@@ -9,7 +9,7 @@ use Rattle.recording.specs.declared.interface.Interface.{Interface}
 use Rattle.recording.specs.declared.time.Time.{Time}
 use Rattle.recording.specs.Numbers.{number16, number32}
 use Rattle.recording.specs.Times.{tick_time}
-use Rattle.recording.specs.Packets.{RecordValue, record_of}
+use Rattle.recording.specs.Captured.{RecordValue}
 use Rattle.recording.specs.Blocks.{BlockValue}
 use Rattle.recording.specs.Interfaces.{interface_in}
 
@@ -37,16 +37,26 @@ abbrev pub block_time : Interface → BlockValue → Time
 block_time i b =
     tick_time i.resolution i.offset (number32 b.order b.body 4 * 0x100000000 + number32 b.order b.body 8)
 
--- the record of a packet of an interface, if the section has it
-abbrev pub timed_of : ℕ → BlockValue → Option Interface → Meaning
-timed_of p b None = Err (UnknownInterface p)
-timed_of p b (Some i) = Ok (Some (record_of (Some (block_time i b)) i.link (slice_range b.body 20 (captured_end b))))
+-- a packet with a time, of the interface with this number
+abbrev pub timed_packet : BlockValue → ℕ → Interface → RecordValue
+timed_packet b index i = record {
+  time = Some (block_time i b);
+  interface = index;
+  link = i.link;
+  original = number32 b.order b.body 16;
+  bytes = slice_range b.body 20 (captured_end b);
+}
+
+-- the same, if the section has the interface
+abbrev pub timed_of : ℕ → BlockValue → ℕ → Option Interface → Meaning
+timed_of p b index None = Err (UnknownInterface p)
+timed_of p b index (Some i) = Ok (Some (timed_packet b index i))
 
 -- what a packet with a time says, of the interface of an index, unless its body is too short for the captured bytes
 abbrev pub timed_record : List Interface → ℕ → BlockValue → ℕ → Meaning
 timed_record interfaces p b index =
     if nat_lt (length b.body) (captured_end b) then Err (BlockLength p)
-    else timed_of p b (slice_get interfaces index)
+    else timed_of p b index (slice_get interfaces index)
 
 -- ---- packets without a time: the original length, the bytes
 
@@ -55,11 +65,20 @@ timed_record interfaces p b index =
 abbrev pub captured_len : ℕ → ℕ → ℕ → ℕ
 captured_len snap original room = if snap == 0 then min original room else min (min original room) snap
 
--- the record of a packet without a time of an interface, if the section has it
+-- a packet without a time, of the first interface
+abbrev pub simple_packet : BlockValue → Interface → RecordValue
+simple_packet b i = record {
+  time = None;
+  interface = 0;
+  link = i.link;
+  original = number32 b.order b.body 0;
+  bytes = slice_range b.body 4 (4 + captured_len i.snap (number32 b.order b.body 0) (length b.body - 4));
+}
+
+-- the same, if the section has an interface
 abbrev pub simple_of : ℕ → BlockValue → Option Interface → Meaning
 simple_of p b None = Err (UnknownInterface p)
-simple_of p b (Some i) =
-    Ok (Some (record_of None i.link (slice_range b.body 4 (4 + captured_len i.snap (number32 b.order b.body 0) (length b.body - 4)))))
+simple_of p b (Some i) = Ok (Some (simple_packet b i))
 
 -- what a simple packet says: it has no time, and at most the snap length of the section's first interface, if that has
 -- one

@@ -8,7 +8,7 @@ use Rattle.recording.specs.declared.number.ByteOrder.TheVariants.{Big, Little}
 use Rattle.recording.specs.declared.classic.Classic.{Classic}
 use Rattle.recording.specs.declared.interface.Interface.{Interface}
 use Rattle.recording.specs.Times.{classic_time}
-use Rattle.recording.specs.Packets.{RecordValue, record_of}
+use Rattle.recording.specs.Captured.{RecordValue}
 use Rattle.recording.specs.Classic.{packet_fault}
 use Rattle.recording.specs.Blocks.{BlockValue, kind_of, block_fault}
 use Rattle.recording.specs.Sections.{meaning_of, interfaces_after}
@@ -38,6 +38,7 @@ pub record PacketFits (k : PacketValue) : Type 0 where
   pub seconds : k.seconds < 2 ^ 32
   pub fraction : k.fraction < 2 ^ 32
   pub captured : length k.bytes < 2 ^ 32
+  pub original : k.original < 2 ^ 32
 
 -- its bytes
 abbrev pub packet_bytes : ByteOrder → PacketValue → List ℕ
@@ -52,7 +53,13 @@ header_bytes c free upper =
 
 -- what a packet gives
 abbrev pub given_by : Classic → PacketValue → RecordValue
-given_by c k = record_of (Some (classic_time (if c.micro then 1000 else 1) k.seconds k.fraction)) c.link k.bytes
+given_by c k = record {
+  time = Some (classic_time (if c.micro then 1000 else 1) k.seconds k.fraction);
+  interface = 0;
+  link = c.link;
+  original = k.original;
+  bytes = k.bytes;
+}
 
 -- how the rest after the last packet, at place p, ends the file: nothing is left, or no whole packet
 abbrev pub EndsAt : Classic → ℕ → List ℕ → Option RecordingError → Type 0

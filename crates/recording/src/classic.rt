@@ -66,7 +66,9 @@ pub(crate) fn front_packet(
     }
     Ok(Packet {
         time: Some(packet_time(classic, rest)),
+        interface: 0,
         link: classic.link,
+        original: u32_at(classic.order, rest, 12),
         start: 16,
         end,
     })

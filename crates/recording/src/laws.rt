@@ -5,7 +5,9 @@ ghost use Rattle.recording.specs.declared.error.RecordingError.TheVariants.{Trun
 ghost use Rattle.recording.specs.declared.error.RecordingError.TheVariants.{NotRecording};
 ghost use Rattle.recording.specs.declared.number.ByteOrder.TheVariants.{Little};
 ghost use Rattle.recording.specs.declared.time.Time.{Time};
-ghost use Rattle.recording.specs.Packets.{DatagramValue, datagram_in};
+ghost use Rattle.recording.specs.Packets.{DatagramValue, carried_in, datagram, fragment, inner_vlan, nothing};
+ghost use Rattle.recording.specs.Packets.{outer_vlan};
+ghost use Rattle.recording.specs.declared.record.Skipped.TheVariants.{BadUdpLength, Cut, LinkType, NotIpv4, NotUdp};
 ghost use Rattle.recording.specs.PacketSpelling.{Carries};
 ghost use Rattle.recording.specs.Spelling.{IsBytes, IsClassic, IsBlocks, IsRecording};
 ghost use Rattle.recording.specs.Spelling.{head, plain};
@@ -13,6 +15,8 @@ ghost use Rattle.recording.specs.Records.{Item, items_of};
 ghost use Rattle.recording.specs.Examples.{sent_at, classic_head, classic_file, cut_file, blocks_file};
 ghost use Rattle.recording.specs.Examples.{little_packet, too_long_head, long_head, little_raw};
 ghost use Rattle.recording.specs.Examples.{sent_packet, cut_packet, little_section, little_blocks};
+ghost use Rattle.recording.specs.Examples.{more_bytes, no_room_bytes, sent_bytes, sent_datagram, short_bytes};
+ghost use Rattle.recording.specs.Examples.{tagged_bytes, tcp_bytes};
 ghost use Rattle.recording.specs.HeldItems.{held_of, IsRead};
 ghost use Rattle.recording.specs.HeldSpelling.{IsHeldWhole, HoldsPackets, HoldsBlocks};
 ghost use Rattle.recording.specs.HeldSpelling.{HoldsInterfaces};
@@ -65,13 +69,29 @@ pub fn each_recording_is_read_in_one_way()
         → items_of file ≡ Ok items }
 {}
 
-/// A packet that carries a datagram under one of the headers of the link layer that are read gives
+/// A packet in which a datagram stands under one of the headers of the link layer that are read carries
 /// this datagram, whatever stands in the fields that are not looked at, and after it. No other packet
-/// gives one.
-pub fn a_packet_gives_the_datagram_that_it_carries()
+/// carries one.
+pub fn a_packet_carries_the_datagram_that_stands_in_it()
     ensures gives { (link : ℕ) (packet : List ℕ) (d : DatagramValue) → Carries link packet d
-        → datagram_in d.time link packet ≡ Ok d }
+        → carried_in d.time link packet ≡ datagram d }
     ensures only { (time : Option Time) (link : ℕ) (packet : List ℕ) (d : DatagramValue)
-        → IsBytes packet → datagram_in time link packet ≡ Ok d
+        → IsBytes packet → carried_in time link packet ≡ datagram d
         → Carries link packet d × (d.time ≡ time) }
+{}
+
+/// Examples of what a packet carries: a datagram, with two VLAN tags before it and without; a fragment;
+/// neither, since its link type is not read, it is no IPv4 or no UDP, it was cut, or UDP has no room.
+pub fn what_packets_carry()
+    ensures raw { carried_in None 228 sent_bytes ≡ sent_datagram }
+    ensures tagged { carried_in None 1 tagged_bytes ≡ sent_datagram }
+    ensures outer { outer_vlan 1 tagged_bytes ≡ Some 100 }
+    ensures inner { inner_vlan 1 tagged_bytes ≡ Some 7 }
+    ensures no_tag { outer_vlan 228 tagged_bytes ≡ None }
+    ensures fragment { carried_in None 228 more_bytes ≡ fragment }
+    ensures link { carried_in None 147 sent_bytes ≡ nothing LinkType }
+    ensures not_ipv4 { carried_in None 1 sent_bytes ≡ nothing NotIpv4 }
+    ensures not_udp { carried_in None 228 tcp_bytes ≡ nothing NotUdp }
+    ensures cut { carried_in None 228 short_bytes ≡ nothing Cut }
+    ensures room { carried_in None 228 no_room_bytes ≡ nothing BadUdpLength }
 {}

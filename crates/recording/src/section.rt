@@ -94,7 +94,9 @@ fn timed_packet(
     let time = block_time(*interface, block);
     Ok(Some(Packet {
         time: Some(time),
+        interface: index,
         link: interface.link,
+        original: u32_at(order, body, 16),
         start: 20,
         end,
     }))
@@ -130,14 +132,13 @@ fn simple_packet(
     let Some(interface) = interfaces.get(0) else {
         return Err(RecordingError::UnknownInterface(place));
     };
-    let size = captured_len(
-        interface.snap,
-        u32_at(block.order, block.body, 0),
-        block.body.len() - 4,
-    );
+    let original = u32_at(block.order, block.body, 0);
+    let size = captured_len(interface.snap, original, block.body.len() - 4);
     Ok(Some(Packet {
         time: None,
+        interface: 0,
         link: interface.link,
+        original,
         start: 4,
         end: 4 + size,
     }))

@@ -62,5 +62,6 @@ fn laws_hold() {
     laws::readers_give_what_recordings_give();
     laws::what_a_reader_holds();
     laws::each_recording_is_read_in_one_way();
-    laws::a_packet_gives_the_datagram_that_it_carries();
+    laws::a_packet_carries_the_datagram_that_stands_in_it();
+    laws::what_packets_carry();
 }

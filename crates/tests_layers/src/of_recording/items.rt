@@ -1,6 +1,7 @@
 //! What a file holds, and whether it gives that.
 use recording::{
-    Datagram, Endpoint, Next, Record, Recording, RecordingError, RecordingReader, Skipped, Time,
+    Carried, Datagram, Endpoint, Next, Record, Recording, RecordingError, RecordingReader, Skipped,
+    Time,
 };
 use std::alloc::Global;
 
@@ -13,6 +14,8 @@ pub(crate) enum Wanted {
     EmptyAt(u64, u32),
     /// A datagram of these bytes without a time.
     Untimed(&'static [u8]),
+    /// A fragment.
+    Fragment,
     /// A packet without a datagram.
     Other(Skipped),
     /// A fault.
@@ -30,15 +33,18 @@ fn time(seconds: u64, nanoseconds: u32) -> Option<Time> {
 impl Wanted {
     /// Whether a record is the one that is wanted.
     fn is_record(self, found: &Record<'_>) -> bool {
-        match (self, found) {
-            (Wanted::At(seconds, nanoseconds), Record::Datagram(found)) => {
-                is_sent(found, time(seconds, nanoseconds), &[1, 2, 3])
+        match (self, found.carried()) {
+            (Wanted::At(seconds, nanoseconds), Carried::Datagram(found)) => {
+                is_sent(&found, time(seconds, nanoseconds), &[1, 2, 3])
             }
-            (Wanted::EmptyAt(seconds, nanoseconds), Record::Datagram(found)) => {
-                is_sent(found, time(seconds, nanoseconds), &[])
+            (Wanted::EmptyAt(seconds, nanoseconds), Carried::Datagram(found)) => {
+                is_sent(&found, time(seconds, nanoseconds), &[])
             }
-            (Wanted::Untimed(payload), Record::Datagram(found)) => is_sent(found, None, payload),
-            (Wanted::Other(skipped), Record::Other(found)) => skipped == *found,
+            (Wanted::Untimed(payload), Carried::Datagram(found)) => {
+                is_sent(&found, None, payload)
+            }
+            (Wanted::Fragment, Carried::Fragment) => true,
+            (Wanted::Other(skipped), Carried::Nothing(found)) => skipped == found,
             _ => false,
         }
     }

@@ -1,5 +1,5 @@
 //! Packets of each link type, and each reason for which one gives no datagram.
-use super::items::Wanted::Other;
+use super::items::Wanted::{Fragment, Other};
 use super::items::{Wanted, gives};
 use crate::rows::Row;
 use recording::Skipped;
@@ -241,7 +241,7 @@ pub(super) const PACKETS: &[Packet] = &[
             0x45, 0, 0, 0x1f, 0x12, 0x34, 0x20, 0, 0x40, 0x11, 0, 0, 0xc0, 0xa8, 0, 1, 0xc0, 0xa8,
             0, 2, 0x77, 0x1a, 0x77, 0x25, 0, 0x0b, 0, 0, 1, 2, 3,
         ],
-        Other(Skipped::Fragment),
+        Fragment,
     ),
     // A later fragment.
     Packet(
@@ -250,7 +250,7 @@ pub(super) const PACKETS: &[Packet] = &[
             0x45, 0, 0, 0x1f, 0x12, 0x34, 0, 1, 0x40, 0x11, 0, 0, 0xc0, 0xa8, 0, 1, 0xc0, 0xa8, 0,
             2, 0x77, 0x1a, 0x77, 0x25, 0, 0x0b, 0, 0, 1, 2, 3,
         ],
-        Other(Skipped::Fragment),
+        Fragment,
     ),
     // A later fragment of TCP.
     Packet(
@@ -259,7 +259,7 @@ pub(super) const PACKETS: &[Packet] = &[
             0x45, 0, 0, 0x1f, 0x12, 0x34, 0x1f, 0xff, 0x40, 6, 0, 0, 0xc0, 0xa8, 0, 1, 0xc0, 0xa8,
             0, 2, 0x77, 0x1a, 0x77, 0x25, 0, 0x0b, 0, 0, 1, 2, 3,
         ],
-        Other(Skipped::Fragment),
+        Other(Skipped::NotUdp),
     ),
     // The reserved bit alone.
     Packet(

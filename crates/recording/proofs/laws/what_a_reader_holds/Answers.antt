@@ -11,7 +11,7 @@ returns-clause-spelled c = record {
   free_len = refl;
   upper_fits = lit< tt;
   link_fits = lit< tt;
-  packets_fit = (record { seconds = lit< tt; fraction = lit< tt; captured = lit< tt }, tt);
+  packets_fit = (record { seconds = lit< tt; fraction = lit< tt; captured = lit< tt; original = lit< tt }, tt);
   ends = ((λ none. cc), refl);
 }
 

@@ -1,5 +1,5 @@
 use Rattle.std.proofs.Common.{◌≡◌, ◌-◌, ◌∙◌, sym, ap, arith, Ok, Option}
-use Rattle.recording.specs.Packets.{RecordValue}
+use Rattle.recording.specs.Captured.{RecordValue}
 use Rattle.recording.specs.View.{given_in, view_block}
 use Rattle.recording.proofs.RangeLemmas.{given-behind}
 use Rattle.recording.proofs.SectionLemmas.{blocks_meaning}

@@ -2,7 +2,7 @@ use Rattle.std.proofs.Common.{◌≡◌, ◌≤◌, ◌∷◌, ◌∙◌, ◌+�
 use Rattle.std.proofs.lemmas.Result.{err_from_is_err_and}
 use Rattle.std.proofs.lemmas.List.{take_rest, length-drop}
 use Rattle.recording.specs.declared.packet.Packet.{Packet}
-use Rattle.recording.specs.Packets.{RecordValue}
+use Rattle.recording.specs.Captured.{RecordValue}
 use Rattle.recording.specs.Records.{part_meaning, items_from, items_after}
 use Rattle.recording.specs.View.{given_in, record_at, view_record}
 use Rattle.recording.proofs.ItemLemmas.{left_none, left_part, fails_last}
