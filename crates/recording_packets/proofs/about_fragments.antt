@@ -1,0 +1,10 @@
+pub mod CellLemmas
+pub mod PartLemmas
+pub mod TakeLemmas
+pub mod KnownLemmas
+pub mod OrderLemmas
+pub mod StoreLemmas
+pub mod SourceLemmas
+pub mod DifferLemmas
+pub mod OnceLemmas
+pub mod BoundLemmas

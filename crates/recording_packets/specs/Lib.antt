@@ -1,0 +1,9 @@
+pub mod LeftOut
+pub mod Chosen
+pub mod copies
+pub mod fragments
+pub mod Intake
+pub mod Codes
+pub mod Carried
+pub mod Examples
+pub mod View

@@ -1,0 +1,7 @@
+-- Packets that were recorded twice.
+pub mod Remembered
+pub mod Recordings
+pub mod Examples
+pub mod Marks
+pub mod Owned
+pub mod Tables

@@ -1,0 +1,9 @@
+pub mod Pieces
+pub mod Cells
+pub mod Parts
+pub mod Stores
+pub mod Takings
+pub mod Totals
+pub mod Wholes
+pub mod Examples
+pub mod Views

@@ -1,0 +1,106 @@
+//! Packets that a mirrored tap recorded twice, told apart from those that were sent twice.
+//!
+//! A packet is a copy where the same packet was seen a short time before: source, destination,
+//! identification, fragment field, protocol and payload are equal. A sender gives each packet an
+//! identification of its own (RFC 791, 3.2), so what is sent twice mostly differs in it. Where
+//! Don't Fragment is set, it may stand still (RFC 6864, 4.1): what is sent twice with one payload
+//! is then told apart by the window alone, so take a short one.
+//!
+//! - [`Copies`]: what is remembered of a recording, packet by packet;
+//! - [`BUDGET`] and [`PACKET_COST`]: how much that may be;
+//! - [`laws`]: what the definitions behind the contracts promise.
+//!
+//! How packets are kept. Each stands once, with its payload, at the turn in which it was seen last;
+//! the turns rise, so the oldest stands first. Beside that stand the turns by packet, in order: a
+//! packet is found in O(log n) looks, none of which reads more than its own bytes. No hash is
+//! needed that a recording could be made against.
+ghost use Rattle.std.specs.Prelude.{◌≡◌, [], IfOk, OnOk, OnErr};
+ghost use Rattle.recording.specs.View.{view_ipv4};
+ghost use Rattle.recording_packets.specs.copies.Remembered.{after, is_copy};
+
+pub mod laws;
+mod owned;
+mod tables;
+
+use crate::copies::owned::SharedPacket;
+use crate::copies::tables::{Sighting, Sightings, Turns, cost_of, forget, is_recent, note};
+use recording::Ipv4Packet;
+use std::alloc::{AllocError, Global};
+use std::collections::BTreeMap;
+use std::marker::Model;
+
+/// The most that is remembered, in bytes: 16 MiB.
+pub const BUDGET: u64 = 16_777_216;
+
+/// What a remembered packet counts beside its payload, in bytes: two blocks of memory, and its
+/// places in the two tables. Some 180 to 210 were taken, with payloads of 12 to 1400 bytes.
+pub const PACKET_COST: u64 = 256;
+
+/// What is remembered of a recording, to tell a copy of a packet when it comes.
+#[derive(Drop)]
+pub struct Copies {
+    alloc: Global,
+    window: u64,
+    sightings: Sightings,
+    turns: Turns,
+    next: u64,
+    cost: u64,
+}
+
+impl Model for Copies {
+    ghost use Rattle.recording_packets.specs.copies.Remembered.{Memory};
+    ghost use Rattle.recording_packets.specs.copies.Tables.{memory_of, IsKept};
+
+    ghost Value = { Memory };
+
+    ghost view = { λ c. memory_of c.window c.sightings.entries };
+
+    ghost invariant = { λ c. IsKept c.sightings.entries c.turns c.next c.cost };
+}
+
+impl Copies {
+    /// Nothing is remembered yet. A copy comes at most `window` nanoseconds after the packet.
+    pub fn new(alloc: Global, window: u64) -> Copies
+        ensures { result ≡ record { window = window; remembered = [] } }
+    {
+        Copies {
+            alloc,
+            window,
+            sightings: BTreeMap::new(alloc),
+            turns: BTreeMap::new(alloc),
+            next: 0,
+            cost: 0,
+        }
+    }
+
+    /// Whether a packet is a copy, and remembers it. `now` is the recording's clock in nanoseconds;
+    /// a packet that was seen after it counts as seen now. The oldest packets are forgotten once
+    /// they are out of the window, and where the budget does not hold all. Out of memory leaves all
+    /// as it was.
+    pub fn sees(&mut self, now: u64, packet: &Ipv4Packet) -> Result<bool, AllocError>
+        ensures copy { IfOk result (λ copy. copy
+            ≡ is_copy self.old.window now (view_ipv4 packet.now) self.old.remembered) }
+        ensures after { OnOk result (self.new ≡ record self.old {
+          remembered = after self.old.window now (view_ipv4 packet.now) self.old.remembered;
+        }) }
+        ensures err { OnErr result (self.new ≡ self.old) }
+    {
+        // No recording has 2^64 packets.
+        let following = self.next.checked_add(1).ok_or(AllocError)?;
+        let packet = SharedPacket::new(self.alloc, packet)?;
+        let cost = cost_of(&packet);
+        let sighting = Sighting {
+            moment: now,
+            packet,
+        };
+        let earlier = note(&mut self.sightings, &mut self.turns, self.next, sighting)?;
+        self.next = following;
+        let cost = if earlier.is_some() {
+            self.cost
+        } else {
+            self.cost + cost
+        };
+        self.cost = forget(&mut self.sightings, &mut self.turns, cost, self.window, now);
+        Ok(is_recent(self.window, now, earlier))
+    }
+}

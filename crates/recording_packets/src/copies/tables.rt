@@ -1,0 +1,199 @@
+//! What is remembered, by the turn of each packet, and the turns by packet.
+ghost use Rattle.std.specs.Prelude.{◌≡◌, ◌+◌, ℕ, ◌∷◌, ◌++◌, [], drop, if◌then◌else◌};
+ghost use Rattle.std.specs.Prelude.{Some, None, IfOk, OnOk, OnErr, IsSome};
+ghost use Rattle.std.specs.BTreeMap as tree;
+ghost use Rattle.recording_packets.specs.copies.Remembered.{others, kept, has_to_go};
+ghost use Rattle.recording_packets.specs.copies.Remembered.{cost_of_all, packet_cost};
+ghost use Rattle.recording_packets.specs.copies.Owned.{packet_of};
+ghost use Rattle.recording_packets.specs.declared.copies.owned.SharedPacket.{SharedPacket};
+ghost use Rattle.recording_packets.specs.copies.Tables.{HasTurns, IsInTurn, moment_of, turn_of};
+ghost use Rattle.recording_packets.specs.copies.Tables.{remembered_in, value_of};
+ghost use Rattle.recording_packets.specs.copies.Tables.{shared_cmp, was_within};
+
+use crate::copies::owned::SharedPacket;
+use crate::copies::{BUDGET, PACKET_COST};
+use std::alloc::AllocError;
+use std::collections::BTreeMap;
+
+/// A packet that was seen, and the moment, in nanoseconds, at which it was seen last.
+#[derive(Drop)]
+pub(crate) struct Sighting {
+    pub(crate) moment: u64,
+    pub(crate) packet: SharedPacket,
+}
+
+/// The sightings by turn: the turn of each is above those before it.
+pub(crate) type Sightings = BTreeMap<u64, Sighting>;
+
+/// The turn of each packet that is remembered.
+pub(crate) type Turns = BTreeMap<SharedPacket, u64>;
+
+/// Remembers a packet as the youngest, at the next turn. Tells the moment at which it was seen
+/// last, if it was remembered. What is refused because memory ran out leaves all as it was.
+pub(crate) fn note(
+    sightings: &mut Sightings,
+    turns: &mut Turns,
+    next: u64,
+    sighting: Sighting,
+) -> Result<Option<u64>, AllocError>
+    requires in_turn { IsInTurn next sightings.old.entries }
+    requires has_turns { HasTurns turns.old sightings.old.entries }
+    ensures ok { OnOk result (remembered_in sightings.new.entries
+        ≡ others (packet_of sighting.packet.owned.value) (remembered_in sightings.old.entries)
+        ++ value_of sighting ∷ []) }
+    ensures earlier { IfOk result (λ earlier. earlier
+        ≡ moment_of (packet_of sighting.packet.owned.value) sightings.old.entries) }
+    ensures in_turn { OnOk result (IsInTurn (next + 1) sightings.new.entries) }
+    ensures err { OnErr result (sightings.new.entries ≡ sightings.old.entries) }
+    ensures has_turns { HasTurns turns.new sightings.new.entries }
+{
+    match turns.get(&sighting.packet) {
+        Some(turn) => {
+            let turn = *turn;
+            renew(sightings, turns, turn, next, sighting)
+        }
+        None => {
+            add(sightings, turns, next, sighting)?;
+            Ok(None)
+        }
+    }
+}
+
+/// Remembers a packet that was not remembered.
+fn add(
+    sightings: &mut Sightings,
+    turns: &mut Turns,
+    next: u64,
+    sighting: Sighting,
+) -> Result<(), AllocError>
+    requires in_turn { IsInTurn next sightings.old.entries }
+    requires has_turns { HasTurns turns.old sightings.old.entries }
+    requires absent { turn_of (packet_of sighting.packet.owned.value) sightings.old.entries ≡ None }
+    ensures ok { OnOk result (sightings.new.entries
+        ≡ sightings.old.entries ++ (next, sighting) ∷ []) }
+    ensures err { OnErr result (sightings.new.entries ≡ sightings.old.entries) }
+    ensures has_turns { HasTurns turns.new sightings.new.entries }
+{
+    let packet = sighting.packet.share()?;
+    sightings.insert(next, sighting)?;
+    if turns.insert(packet, next).is_err() {
+        sightings.remove(&next);
+        return Err(AllocError);
+    }
+    Ok(())
+}
+
+/// Remembers a packet anew that is remembered at a turn, with the payload that it had.
+fn renew(
+    sightings: &mut Sightings,
+    turns: &mut Turns,
+    turn: u64,
+    next: u64,
+    sighting: Sighting,
+) -> Result<Option<u64>, AllocError>
+    requires in_turn { IsInTurn next sightings.old.entries }
+    requires has_turns { HasTurns turns.old sightings.old.entries }
+    requires present { turn_of (packet_of sighting.packet.owned.value) sightings.old.entries
+        ≡ Some turn }
+    ensures ok { OnOk result (remembered_in sightings.new.entries
+        ≡ others (packet_of sighting.packet.owned.value) (remembered_in sightings.old.entries)
+        ++ value_of sighting ∷ []) }
+    ensures earlier { IfOk result (λ earlier. earlier
+        ≡ moment_of (packet_of sighting.packet.owned.value) sightings.old.entries) }
+    ensures in_turn { OnOk result (IsInTurn (next + 1) sightings.new.entries) }
+    ensures err { OnErr result (sightings.new.entries ≡ sightings.old.entries) }
+    ensures has_turns { HasTurns turns.new sightings.new.entries }
+{
+    let Some(earlier) = sightings.get(&turn) else {
+        // Never: a turn that stands by its packet has a sighting.
+        return Err(AllocError);
+    };
+    let moment = earlier.moment;
+    let packet = earlier.packet.share()?;
+    let again = Sighting {
+        moment: sighting.moment,
+        packet,
+    };
+    sightings.insert(next, again)?;
+    sightings.remove(&turn);
+    put_turn(turns, &sighting.packet, next);
+    Ok(Some(moment))
+}
+
+/// Puts the turn of a packet in place of an earlier one.
+fn put_turn(turns: &mut Turns, packet: &SharedPacket, turn: u64)
+    requires { IsSome (tree.get shared_cmp turns.old packet.now) }
+    ensures { (other : SharedPacket) → tree.get shared_cmp turns.new other
+        ≡ (if tree.is_at (shared_cmp packet.now) other then Some turn
+        else tree.get shared_cmp turns.old other) }
+{
+    if let Some(place) = turns.get_mut(packet) {
+        *place = turn;
+    }
+}
+
+/// The oldest are forgotten, as many as have to go. Tells what the others count.
+pub(crate) fn forget(
+    sightings: &mut Sightings,
+    turns: &mut Turns,
+    cost: u64,
+    window: u64,
+    now: u64,
+) -> u64
+    requires { cost ≡ cost_of_all (remembered_in sightings.old.entries) }
+    ensures left { remembered_in sightings.new.entries
+        ≡ kept window now (remembered_in sightings.old.entries) }
+    ensures cost { result ≡ cost_of_all (remembered_in sightings.new.entries) }
+    ensures in_turn { (next : ℕ) → IsInTurn next sightings.old.entries
+        → IsInTurn next sightings.new.entries }
+    ensures has_turns { (next : ℕ) → IsInTurn next sightings.old.entries
+        → HasTurns turns.old sightings.old.entries → HasTurns turns.new sightings.new.entries }
+{
+    let mut left = cost;
+    while must_go(sightings, left, window, now) {
+        left -= forget_oldest(sightings, turns);
+    }
+    left
+}
+
+/// Whether the oldest has to go.
+fn must_go(sightings: &Sightings, cost: u64, window: u64, now: u64) -> bool
+    requires { cost ≡ cost_of_all (remembered_in sightings.now.entries) }
+    ensures { result ≡ has_to_go window now (remembered_in sightings.now.entries) }
+{
+    match sightings.first_key_value() {
+        Some((_, oldest)) => now.saturating_sub(oldest.moment) > window || cost > BUDGET,
+        None => false,
+    }
+}
+
+/// Forgets the oldest. Tells what it counted.
+fn forget_oldest(sightings: &mut Sightings, turns: &mut Turns) -> u64
+    ensures left { sightings.new.entries ≡ drop 1 sightings.old.entries }
+    ensures cost { cost_of_all (remembered_in sightings.old.entries)
+        ≡ result + cost_of_all (remembered_in sightings.new.entries) }
+    ensures has_turns { (next : ℕ) → IsInTurn next sightings.old.entries
+        → HasTurns turns.old sightings.old.entries → HasTurns turns.new sightings.new.entries }
+{
+    match sightings.pop_first() {
+        Some((_, oldest)) => {
+            turns.remove(&oldest.packet);
+            cost_of(&oldest.packet)
+        }
+        None => 0,
+    }
+}
+
+/// What a packet counts, in bytes.
+pub(crate) fn cost_of(packet: &SharedPacket) -> u64
+    ensures { result ≡ packet_cost (packet_of packet.now.owned.value) }
+{
+    packet.owned.payload.len() as u64 + PACKET_COST
+}
+
+/// Whether a packet was seen at a moment that lies at most the window before `now`.
+pub(crate) fn is_recent(window: u64, now: u64, seen: Option<u64>) -> bool
+    ensures { result ≡ was_within window now seen }
+{
+    seen.is_some_and(|moment| now.saturating_sub(moment) <= window)
+}
