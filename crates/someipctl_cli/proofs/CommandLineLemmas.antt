@@ -3,12 +3,13 @@ use Rattle.std.proofs.Common.{◌≡◌, ◌∙◌, ◌||◌, ◌==◌, Bool, co
 use Rattle.std.specs.List.{list_all}
 use Rattle.std.specs.Option.{option_map_or}
 use Rattle.std.proofs.Math.Path.{fun_ext}
-use Rattle.std.specs.Prelude.{IfOk, option_and_then}
+use Rattle.std.specs.Prelude.{IfOk, option_and_then, unwrap_or}
 use Rattle.std.specs.Str.{bytes_eq}
 use Rattle.std.proofs.lemmas.Slice.Eq.{bytes_eq-Decides}
 use Rattle.std.proofs.lemmas.Result.{IfOk-weaker}
 use Rattle.std.specs.Box.{box_value}
 use Rattle.std.specs.declared.alloc.Global.{Global}
+use Rattle.clap.specs.Words.{all_of}
 use Rattle.clap.specs.Words.{App, HasMatchesOf, Row, Shape, Text, app_of, built, fault_of, first_of, first_value, found_of, is_simple, is_simple_and_free, rows_of, shape_of, subcommand_name_of, subcommand_rows, subcommand_rows_of}
 use Rattle.clap.specs.Words.{HasKind, IsAmong, Kinds, kind_of}
 use Rattle.clap.specs.declared.Error.{Error}
@@ -24,9 +25,9 @@ use Rattle.clap.specs.declared.Command.{Command}
 use Rattle.clap.specs.declared.parser.matches.ArgMatches.TheViews.{out-ArgMatches, out-SubCommand}
 use Rattle.clap.specs.declared.parser.matches.Found.{Found}
 use Rattle.clap.specs.declared.parser.matches.SubCommand.{SubCommand}
-use Rattle.clap.proofs.WalkLemmas.{first_value-rows}
+use Rattle.clap.proofs.WalkLemmas.{first_value-rows, raw_values-rows}
 use Rattle.clap.proofs.OnLiterals.{clap_on_literals}
-use Rattle.someipctl_cli.specs.CommandLine.{HaveFault, IsLineErrorOf, IsTaken, RefusesWords, cli, is_flag, asked_by_subcommand, asked_by_entered, Request, requested, show_request}
+use Rattle.someipctl_cli.specs.CommandLine.{HaveFault, IsLineErrorOf, IsTaken, RefusesWords, cli, is_flag, asked_by_subcommand, asked_by_entered, Request, requested, show_request, values_of}
 use Rattle.someipctl_cli.proofs.ClapWalkLemmas.{EntersNoHelp, enters_subcommand, has_value, is_wanted, wanted_value}
 
 -- a command alone, as it is among others
@@ -84,18 +85,21 @@ with_values None other asks some more = absurd (true≢false (sym some))
 with_values (Some v) other asks some more = with_value other (asks v) more
 
 -- a subcommand asks for something that needs the value of one argument, or those of two
-one_asks : (s : Shape) (id : Text) (asks : (Text → Option Text) → Text → Request) → ((value : Text → Option Text) → asked_by_subcommand s.name value ≡ option_map (asks value) (value id))
+one_asks : (s : Shape) (id : Text) (asks : (Text → Option Text) → (Text → List Text) → Text → Request)
+    → ((value : Text → Option Text) (values : Text → List Text) → asked_by_subcommand s.name value values ≡ option_map (asks value values) (value id))
     → list_all has_value s.rules ≡ true → is_wanted id s ≡ true → Asks s
 one_asks s id asks is valued wanted name met named words none =
     let value : Text → Option Text = λ id. first_of id (rows_at s words).1 in
-    rw (is value) (with_value (value id) (asks value) (wanted_value s id valued wanted words none))
+    let values : Text → List Text = λ id. unwrap_or (all_of id (rows_at s words).1) [] in
+    rw (is value values) (with_value (value id) (asks value values) (wanted_value s id valued wanted words none))
 
 two_asks : (s : Shape) (id other : Text) (asks : (Text → Option Text) → Text → Text → Request)
-    → ((value : Text → Option Text) → asked_by_subcommand s.name value ≡ option_and_then (λ v. option_map (asks value v) (value other)) (value id))
+    → ((value : Text → Option Text) (values : Text → List Text) → asked_by_subcommand s.name value values ≡ option_and_then (λ v. option_map (asks value v) (value other)) (value id))
     → list_all has_value s.rules ≡ true → is_wanted id s ≡ true → is_wanted other s ≡ true → Asks s
 two_asks s id other asks is valued first second name met named words none =
     let value : Text → Option Text = λ id. first_of id (rows_at s words).1 in
-    rw (is value) (with_values (value id) (value other) (asks value) (wanted_value s id valued first words none) (wanted_value s other valued second words none))
+    let values : Text → List Text = λ id. unwrap_or (all_of id (rows_at s words).1) [] in
+    rw (is value values) (with_values (value id) (value other) (asks value) (wanted_value s id valued first words none) (wanted_value s other valued second words none))
 
 -- no other name is that of `help`
 help_asks : (s : Shape) → label_of s ≡ (codes "help", []) → Asks s
@@ -110,20 +114,20 @@ help_asks s is name met named words none = go (bytes_eq (codes "help") name) ref
 
 cli_asks : EachAsks (built cli).subs
 cli_asks = (
-  one_asks _ (codes "capture") _ (λ value. refl) refl refl,
+  one_asks _ (codes "capture") _ (λ value values. refl) refl refl,
   (
-    two_asks _ (codes "shape") (codes "hex") _ (λ value. refl) refl refl refl,
+    two_asks _ (codes "shape") (codes "hex") _ (λ value values. refl) refl refl refl,
     (
-      two_asks _ (codes "shape") (codes "value") _ (λ value. refl) refl refl refl,
+      two_asks _ (codes "shape") (codes "value") _ (λ value values. refl) refl refl refl,
       (
-        one_asks _ (codes "file") _ (λ value. refl) refl refl,
+        one_asks _ (codes "file") _ (λ value values. refl) refl refl,
         (
-          two_asks _ (codes "setup") (codes "schedule") _ (λ value. refl) refl refl refl,
+          two_asks _ (codes "setup") (codes "schedule") _ (λ value values. refl) refl refl refl,
           (
-            one_asks _ (codes "file") _ (λ value. refl) refl refl,
+            one_asks _ (codes "file") _ (λ value values. refl) refl refl,
             (
-              two_asks _ (codes "setup") (codes "schedule") _ (λ value. refl) refl refl refl,
-              (one_asks _ (codes "recording") _ (λ value. refl) refl refl, (help_asks _ refl, tt)),
+              two_asks _ (codes "setup") (codes "schedule") _ (λ value values. refl) refl refl refl,
+              (one_asks _ (codes "file") _ (λ value values. refl) refl refl, (help_asks _ refl, tt)),
             ),
           ),
         ),
@@ -212,5 +216,9 @@ entered_is m name rows e f = go (out-ArgMatches m).subcommand e f
 
 -- what a subcommand's matches ask for is what was entered
 pub entered_asks : (m : ArgMatches) (name : Text) (f : Found) → subcommand_rows_of m ≡ Some (name, rows_of f)
-    → asked_by_subcommand name (first_value f) ≡ asked_by_entered (subcommand_rows_of m)
-entered_asks m name f is = ap (asked_by_subcommand name) (fun_ext (first_value-rows f)) ∙ sym (ap asked_by_entered is)
+    → asked_by_subcommand name (first_value f) (values_of f) ≡ asked_by_entered (subcommand_rows_of m)
+entered_asks m name f is =
+    let all : (id : Text) → values_of f id ≡ unwrap_or (all_of id (rows_of f)) [] = λ id. ap (λ (o : Option (List Text)). unwrap_or o []) (raw_values-rows f id) in
+    ap (λ (value : Text → Option Text). asked_by_subcommand name value (values_of f)) (fun_ext (first_value-rows f))
+    ∙ ap (asked_by_subcommand name (λ id. first_of id (rows_of f))) (fun_ext all)
+    ∙ sym (ap asked_by_entered is)

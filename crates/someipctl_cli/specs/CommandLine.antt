@@ -1,17 +1,21 @@
 -- The command line, and what its words ask for.
-use Rattle.std.specs.Prelude.{◌==◌, ◌≡◌, ◌≢◌, ◌⊎◌, Bool, true, false, List, [], ◌∷◌, codes, Option, Some, None, option_map, option_and_then, if◌then◌else◌}
+use Rattle.std.specs.Prelude.{◌==◌, ◌≡◌, ◌≢◌, ◌⊎◌, Bool, true, false, List, [], ◌∷◌, codes, map, Option, Some, None, option_map, option_and_then, unwrap_or, if◌then◌else◌}
 use Rattle.std.specs.Str.{bytes_eq}
 use Rattle.std.specs.Borrow.{Bor}
-use Rattle.clap.specs.Words.{App, IsAmong, Row, Rule, Shape, Text, fault_of, first_of, kind_of}
+use Rattle.clap.specs.Words.{App, IsAmong, Row, Rule, Shape, Text, all_of, fault_of, first_of, kind_of}
+use Rattle.clap.specs.Words.{matched_of, raw_values}
+use Rattle.clap.specs.declared.parser.matches.Found.{Found}
 use Rattle.clap.specs.Words.{new_app, new_rule, subcommand_of, with_rule, with_subcommand}
 use Rattle.clap.specs.Simple.{on_top}
 use Rattle.clap.specs.declared.Error.{Error}
 use Rattle.clap.specs.declared.error.ErrorKind.{ErrorKind}
 use Rattle.clap.specs.declared.error.ErrorKind.TheVariants as kind
-use Rattle.clap.specs.declared.builder.ArgAction.TheVariants.{SetTrue}
+use Rattle.clap.specs.declared.builder.ArgAction.TheVariants.{Append, SetTrue}
 use Rattle.someipctl_cli.specs.declared.command.Command.{Command}
 use Rattle.someipctl_cli.specs.declared.command.Command.TheVariants.{Show, Payload, Encode, Vectors, Run, Recording, Chart, Audit}
 use Rattle.someipctl_cli.specs.declared.command.AuditOptions.{AuditOptions}
+use Rattle.someipctl_cli.specs.declared.command.ChoiceOptions.{ChoiceOptions}
+use Rattle.someipctl_cli.specs.declared.command.PacketOptions.{PacketOptions}
 use Rattle.someipctl_cli.specs.declared.command.RecordingOptions.{RecordingOptions}
 use Rattle.someipctl_cli.specs.declared.command.LineError.{LineError}
 use Rattle.someipctl_cli.specs.declared.command.LineError.TheVariants.{Usage, Help, OutOfMemory}
@@ -21,6 +25,10 @@ use Rattle.someipctl_cli.specs.declared.command.LineError.TheVariants.{Usage, He
 -- a required positional argument
 abbrev pub required : Text → Rule
 required id = record (new_rule id) { value_names = 1; required = true }
+
+-- a required positional argument that stands once or more
+abbrev pub required_many : Text → Rule
+required_many id = record (new_rule id) { value_names = 1; required = true; action = Some Append }
 
 -- an option with a value, and one without, by their names
 abbrev pub valued : Text → Rule
@@ -62,24 +70,38 @@ abbrev pub with_whole : App → App
 with_whole command =
     with_rule (with_rule (with_rule (with_rule command (flag (codes "whole"))) (valued (codes "whole-limit"))) (valued (codes "whole-slots"))) (valued (codes "whole-timeout"))
 
--- `recording [--ports PORTS] [--endpoints] [--service SERVICES] [--types FILE] [--whole] [--whole-limit N]
--- [--whole-slots N] [--whole-timeout MS] FILE`
+-- the command with the options that choose datagrams by their addresses, their client and their times
+abbrev pub with_choice : App → App
+with_choice command =
+    with_rule (with_rule (with_rule (with_rule command (valued (codes "address"))) (valued (codes "client"))) (valued (codes "from"))) (valued (codes "until"))
+
+-- the command with the options that choose packets
+abbrev pub with_packets : App → App
+with_packets command = with_rule (with_rule (with_rule command (valued (codes "interface"))) (valued (codes "vlan"))) (valued (codes "dedup"))
+
+-- the command with the options that say what stands before each line
+abbrev pub with_heads : App → App
+with_heads command = with_rule (with_rule command (flag (codes "frames"))) (flag (codes "endpoints"))
+
+-- `recording [--ports PORTS] [--frames] [--endpoints] [--service SERVICES] [--types FILE] [--address A] [--client C]
+-- [--from TIME] [--until TIME] [--interface N] [--vlan ID] [--dedup MS] [--whole] [--whole-limit N]
+-- [--whole-slots N] [--whole-timeout MS] FILE..`
 abbrev pub recording_options : App
-recording_options = with_whole (with_filters (with_rule (with_rule (new_app (codes "recording")) (valued (codes "ports"))) (flag (codes "endpoints"))))
+recording_options = with_whole (with_packets (with_choice (with_filters (with_heads (with_rule (new_app (codes "recording")) (valued (codes "ports")))))))
 
 abbrev pub recording_usage : Shape
-recording_usage = (with_rule recording_options (required (codes "file"))).top
+recording_usage = (with_rule recording_options (required_many (codes "file"))).top
 
 -- `chart SETUP SCHEDULE`
 abbrev pub chart_usage : Shape
 chart_usage = (with_inputs (new_app (codes "chart"))).top
 
--- `audit [--ports PORTS] [--answer-ms N] [--settle-ms N] RECORDING`
+-- `audit [--ports PORTS] [--answer-ms N] [--settle-ms N] [--interface N] [--vlan ID] [--dedup MS] FILE..`
 abbrev pub audit_options : App
-audit_options = with_rule (with_rule (with_rule (new_app (codes "audit")) (valued (codes "ports"))) (valued (codes "answer-ms"))) (valued (codes "settle-ms"))
+audit_options = with_packets (with_rule (with_rule (with_rule (new_app (codes "audit")) (valued (codes "ports"))) (valued (codes "answer-ms"))) (valued (codes "settle-ms")))
 
 abbrev pub audit_usage : Shape
-audit_usage = (with_rule audit_options (required (codes "recording"))).top
+audit_usage = (with_rule audit_options (required_many (codes "file"))).top
 
 -- the program alone, which asks for a subcommand
 abbrev pub program : App
@@ -99,9 +121,25 @@ cli = with_subcommand (with_subcommand (with_subcommand with_file_commands recor
 
 -- ---- what words ask for
 
+-- the options that choose packets
+pub record PacketRequest : Type 0 where
+  pub interface : Option Text
+  pub vlan : Option Text
+  pub dedup : Option Text
+
+-- those that choose datagrams by their addresses, their client and their times
+pub record ChoiceRequest : Type 0 where
+  pub address : Option Text
+  pub client : Option Text
+  pub from : Option Text
+  pub until : Option Text
+
 -- the options of `recording`
 pub record RecordingRequest : Type 0 where
+  pub packets : PacketRequest
+  pub choice : ChoiceRequest
   pub ports : Option Text
+  pub frames : Bool
   pub endpoints : Bool
   pub service : Option Text
   pub types : Option Text
@@ -112,6 +150,7 @@ pub record RecordingRequest : Type 0 where
 
 -- the options of `audit`
 pub record AuditRequest : Type 0 where
+  pub packets : PacketRequest
   pub ports : Option Text
   pub answer_ms : Option Text
   pub settle_ms : Option Text
@@ -123,16 +162,29 @@ pub data Request : Type 0 where
   encode_request : Text → Text → Request
   vectors_request : Text → Request
   run_request : Text → Text → Option Text → Option Text → Bool → Request
-  recording_request : Text → RecordingRequest → Request
+  recording_request : List Text → RecordingRequest → Request
   chart_request : Text → Text → Request
-  audit_request : Text → AuditRequest → Request
+  audit_request : List Text → AuditRequest → Request
 
 abbrev pub text_at : Option (Bor Text) → Option Text
 text_at text = option_map (λ t. t.now) text
 
+-- the texts at references
+abbrev pub texts_at : List (Bor Text) → List Text
+texts_at texts = map (λ t. t.now) texts
+
+abbrev pub asked_by_packets : PacketOptions → PacketRequest
+asked_by_packets o = record { interface = text_at o.interface; vlan = text_at o.vlan; dedup = text_at o.dedup }
+
+abbrev pub asked_by_choice : ChoiceOptions → ChoiceRequest
+asked_by_choice o = record { address = text_at o.address; client = text_at o.client; from = text_at o.from; until = text_at o.until }
+
 abbrev pub asked_by_options : RecordingOptions → RecordingRequest
 asked_by_options o = record {
+  packets = asked_by_packets o.packets;
+  choice = asked_by_choice o.choice;
   ports = text_at o.ports;
+  frames = o.frames;
   endpoints = o.endpoints;
   service = text_at o.service;
   types = text_at o.types;
@@ -143,7 +195,12 @@ asked_by_options o = record {
 }
 
 abbrev pub asked_by_audit_options : AuditOptions → AuditRequest
-asked_by_audit_options o = record { ports = text_at o.ports; answer_ms = text_at o.answer_ms; settle_ms = text_at o.settle_ms }
+asked_by_audit_options o = record {
+  packets = asked_by_packets o.packets;
+  ports = text_at o.ports;
+  answer_ms = text_at o.answer_ms;
+  settle_ms = text_at o.settle_ms;
+}
 
 -- what a command asks for
 abbrev pub asked_by_command : Command → Request
@@ -152,9 +209,9 @@ asked_by_command (Payload shape hex) = payload_request shape.now hex.now
 asked_by_command (Encode shape value) = encode_request shape.now value.now
 asked_by_command (Vectors file) = vectors_request file.now
 asked_by_command (Run setup schedule expect begins lines) = run_request setup.now schedule.now (text_at expect) (text_at begins) lines
-asked_by_command (Recording file options) = recording_request file.now (asked_by_options options)
+asked_by_command (Recording files options) = recording_request (texts_at files.items) (asked_by_options options)
 asked_by_command (Chart setup schedule) = chart_request setup.now schedule.now
-asked_by_command (Audit file options) = audit_request file.now (asked_by_audit_options options)
+asked_by_command (Audit files options) = audit_request (texts_at files.items) (asked_by_audit_options options)
 
 -- what `show` asks for, by the values of its argument and options
 abbrev pub asked_by_show : (Text → Option Text) → Option Request
@@ -172,6 +229,10 @@ asked_by_encode value = option_and_then (λ shape. option_map (encode_request sh
 abbrev pub asked_by_vectors : (Text → Option Text) → Option Request
 asked_by_vectors value = option_map vectors_request (value (codes "file"))
 
+-- all values of an argument, of all its uses
+abbrev pub values_of : Found → Text → List Text
+values_of found id = unwrap_or (option_map raw_values (matched_of found id)) []
+
 -- an option without a value is on where it was given: then its value is that of true
 abbrev pub is_on : Option Text → Bool
 is_on None = false
@@ -183,10 +244,34 @@ asked_by_run value =
     option_and_then (λ setup. option_map (λ schedule. run_request setup schedule (value (codes "expect")) (value (codes "begins")) (is_on (value (codes "lines")))) (value (codes "schedule")))
     (value (codes "setup"))
 
+-- the options that choose packets, by what each matched
+abbrev pub packet_options_of : (interface vlan dedup : Option Text) → PacketRequest
+packet_options_of interface vlan dedup = record { interface = interface; vlan = vlan; dedup = dedup }
+
+abbrev pub packet_options_by : (Text → Option Text) → PacketRequest
+packet_options_by value = packet_options_of (value (codes "interface")) (value (codes "vlan")) (value (codes "dedup"))
+
+-- none was given
+abbrev pub no_packets : PacketRequest
+no_packets = packet_options_of None None None
+
+-- those that choose datagrams
+abbrev pub choice_options_of : (address client from until : Option Text) → ChoiceRequest
+choice_options_of address client from until = record { address = address; client = client; from = from; until = until }
+
+abbrev pub no_choice : ChoiceRequest
+no_choice = choice_options_of None None None None
+
+abbrev pub choice_options_by : (Text → Option Text) → ChoiceRequest
+choice_options_by value = choice_options_of (value (codes "address")) (value (codes "client")) (value (codes "from")) (value (codes "until"))
+
 -- the options of `recording`, by what each matched
-abbrev pub recording_options_of : (ports endpoints service types whole limit slots timeout : Option Text) → RecordingRequest
-recording_options_of ports endpoints service types whole limit slots timeout = record {
+abbrev pub recording_options_of : PacketRequest → ChoiceRequest → (ports frames endpoints service types whole limit slots timeout : Option Text) → RecordingRequest
+recording_options_of packets choice ports frames endpoints service types whole limit slots timeout = record {
+  packets = packets;
+  choice = choice;
   ports = ports;
+  frames = is_on frames;
   endpoints = is_on endpoints;
   service = service;
   types = types;
@@ -198,43 +283,44 @@ recording_options_of ports endpoints service types whole limit slots timeout = r
 
 abbrev pub recording_options_by : (Text → Option Text) → RecordingRequest
 recording_options_by value =
-    recording_options_of (value (codes "ports")) (value (codes "endpoints")) (value (codes "service")) (value (codes "types"))
+    recording_options_of (packet_options_by value) (choice_options_by value)
+    (value (codes "ports")) (value (codes "frames")) (value (codes "endpoints")) (value (codes "service")) (value (codes "types"))
     (value (codes "whole")) (value (codes "whole-limit")) (value (codes "whole-slots")) (value (codes "whole-timeout"))
 
--- what `recording` asks for
-abbrev pub asked_by_recording : (Text → Option Text) → Option Request
-asked_by_recording value = option_map (λ file. recording_request file (recording_options_by value)) (value (codes "file"))
+-- what `recording` asks for, by the values of its options and all values of its argument
+abbrev pub asked_by_recording : (Text → Option Text) → (Text → List Text) → Option Request
+asked_by_recording value values = option_map (λ file. recording_request (values (codes "file")) (recording_options_by value)) (value (codes "file"))
 
 -- what `chart` asks for
 abbrev pub asked_by_chart : (Text → Option Text) → Option Request
 asked_by_chart value = option_and_then (λ setup. option_map (chart_request setup) (value (codes "schedule"))) (value (codes "setup"))
 
 -- the options of `audit`, by what each matched
-abbrev pub audit_options_of : (ports answer_ms settle_ms : Option Text) → AuditRequest
-audit_options_of ports answer_ms settle_ms = record { ports = ports; answer_ms = answer_ms; settle_ms = settle_ms }
+abbrev pub audit_options_of : PacketRequest → (ports answer_ms settle_ms : Option Text) → AuditRequest
+audit_options_of packets ports answer_ms settle_ms = record { packets = packets; ports = ports; answer_ms = answer_ms; settle_ms = settle_ms }
 
 abbrev pub audit_options_by : (Text → Option Text) → AuditRequest
-audit_options_by value = audit_options_of (value (codes "ports")) (value (codes "answer-ms")) (value (codes "settle-ms"))
+audit_options_by value = audit_options_of (packet_options_by value) (value (codes "ports")) (value (codes "answer-ms")) (value (codes "settle-ms"))
 
 -- what `audit` asks for
-abbrev pub asked_by_audit : (Text → Option Text) → Option Request
-asked_by_audit value = option_map (λ file. audit_request file (audit_options_by value)) (value (codes "recording"))
+abbrev pub asked_by_audit : (Text → Option Text) → (Text → List Text) → Option Request
+asked_by_audit value values = option_map (λ file. audit_request (values (codes "file")) (audit_options_by value)) (value (codes "file"))
 
--- what a subcommand asks for, by its name and the values of its arguments and options
-abbrev pub asked_by_subcommand : Text → (Text → Option Text) → Option Request
-asked_by_subcommand name value =
+-- what a subcommand asks for, by its name and the values of its arguments and options: the first of each, and all
+abbrev pub asked_by_subcommand : Text → (Text → Option Text) → (Text → List Text) → Option Request
+asked_by_subcommand name value values =
     if bytes_eq name (codes "show") then asked_by_show value
     else (if bytes_eq name (codes "payload") then asked_by_payload value
     else (if bytes_eq name (codes "encode") then asked_by_encode value
     else (if bytes_eq name (codes "vectors") then asked_by_vectors value
     else (if bytes_eq name (codes "run") then asked_by_run value
-    else (if bytes_eq name (codes "recording") then asked_by_recording value
+    else (if bytes_eq name (codes "recording") then asked_by_recording value values
     else (if bytes_eq name (codes "chart") then asked_by_chart value
-    else (if bytes_eq name (codes "audit") then asked_by_audit value else None)))))))
+    else (if bytes_eq name (codes "audit") then asked_by_audit value values else None)))))))
 
 -- what the subcommand that was entered asks for, where one was
 abbrev pub asked_by_entered : Option (Text × List Row) → Option Request
-asked_by_entered entered = option_and_then (λ p. asked_by_subcommand p.0 (λ id. first_of id p.1)) entered
+asked_by_entered entered = option_and_then (λ p. asked_by_subcommand p.0 (λ id. first_of id p.1) (λ id. unwrap_or (all_of id p.1) [])) entered
 
 -- what the words ask for, by what `clap` matches from them
 abbrev pub requested : List Text → Option Request

@@ -7,19 +7,21 @@ use Rattle.someipctl_io.specs.declared.outcome.Outcome.{Outcome}
 use Rattle.someipctl_io.specs.declared.outcome.Outcome.TheVariants.{Done}
 use Rattle.std.specs.Borrow.{Bor}
 use Rattle.someipctl_cli.specs.declared.failure.Failure.{Failure}
-use Rattle.someipctl_cli.specs.declared.failure.Failure.TheVariants.{Refused, BadPorts, BadServices, BadLimits, BadTimes, LimitAlone, ExpectAndBegins, Usage, NotText, OutOfMemory, CannotRead, CannotWrite}
+use Rattle.someipctl_cli.specs.declared.failure.Failure.TheVariants.{Refused, RecordingOf, BadOption, BadServices, BadLimits, BadTimes, LimitAlone, ExpectAndBegins, Usage, NotText, OutOfMemory, CannotRead, CannotWrite}
 use Rattle.someipctl_cli.specs.declared.failure.Refusal.{Refusal}
 use Rattle.someipctl_io.specs.declared.fault.Fault.{Fault}
 use Rattle.someipctl_io.specs.declared.fault.Fault.TheVariants as faults
-use Rattle.someipctl_recordings.specs.declared.ports.PortsError.{PortsError}
-use Rattle.someipctl_recordings.specs.declared.ports.PortsError.TheVariants as ports
+use Rattle.someipctl_cli.specs.declared.failure.OptionName.{OptionName}
+use Rattle.someipctl_recordings.specs.declared.lists.ListError.{ListError}
+use Rattle.someipctl_recordings.specs.declared.lists.ListError.TheVariants as lists
 use Rattle.someipctl_show.specs.declared.services.ServicesError.{ServicesError}
 use Rattle.someipctl_show.specs.declared.services.ServicesError.TheVariants as services
 
 -- the exit status of a failure
 abbrev pub status_of_failure : Failure → ℕ
 status_of_failure (Refused refusal) = 1
-status_of_failure (BadPorts text usage) = 2
+status_of_failure (RecordingOf path fault) = 1
+status_of_failure (BadOption option text usage) = 2
 status_of_failure (BadServices text usage) = 2
 status_of_failure (BadLimits error) = 2
 status_of_failure (BadTimes error) = 2
@@ -38,10 +40,10 @@ failure_of faults.CannotRead path = CannotRead path
 failure_of faults.CannotWrite path = CannotWrite
 failure_of faults.OutOfMemory path = OutOfMemory
 
--- why a text names no ports, of a command that is used so
-abbrev pub failure_of_ports : PortsError → Bor (List ℕ) → Bor (List ℕ) → Failure
-failure_of_ports ports.BadPorts text usage = BadPorts text usage
-failure_of_ports ports.OutOfMemory text usage = OutOfMemory
+-- why a text of an option names no list, of a command that is used so
+abbrev pub failure_of_list : ListError → OptionName → Bor (List ℕ) → Bor (List ℕ) → Failure
+failure_of_list lists.BadList option text usage = BadOption option text usage
+failure_of_list lists.OutOfMemory option text usage = OutOfMemory
 
 -- why a text names no services, of a command that is used so
 abbrev pub failure_of_services : ServicesError → Bor (List ℕ) → Bor (List ℕ) → Failure

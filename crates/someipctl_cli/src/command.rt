@@ -7,7 +7,9 @@ ghost use Rattle.someipctl_cli.specs.CommandLine.{asked_by_audit, asked_by_audit
 ghost use Rattle.someipctl_cli.specs.CommandLine.{asked_by_command, asked_by_entered, asked_by_options};
 ghost use Rattle.someipctl_cli.specs.CommandLine.{asked_by_encode, asked_by_payload, asked_by_recording, asked_by_run};
 ghost use Rattle.someipctl_cli.specs.CommandLine.{asked_by_show, asked_by_subcommand, asked_by_vectors};
-ghost use Rattle.someipctl_cli.specs.CommandLine.{audit_options_by, is_on, recording_options_by, requested};
+ghost use Rattle.someipctl_cli.specs.CommandLine.{asked_by_choice, asked_by_packets, audit_options_by, choice_options_by};
+ghost use Rattle.someipctl_cli.specs.CommandLine.{is_on, packet_options_by, recording_options_by, requested};
+ghost use Rattle.someipctl_cli.specs.CommandLine.{texts_at, values_of};
 
 use crate::grammar::definition;
 use clap::ArgMatches;
@@ -17,7 +19,7 @@ use std::convert::AsStr;
 use thiserror::Error;
 
 /// What the words ask for.
-#[derive(Clone, Copy, PartialEq, Eq)]
+#[derive(Drop, PartialEq, Eq)]
 pub enum Command<'w> {
     /// Print the messages of a capture.
     Show {
@@ -60,10 +62,10 @@ pub enum Command<'w> {
         /// Whether each line of the trace is to begin with the line of the schedule.
         lines: bool,
     },
-    /// Print the messages of a recording of network traffic.
+    /// Print the messages of recordings of network traffic.
     Recording {
-        /// The recording's path, as it was given.
-        file: &'w str,
+        /// Their paths, as they were given.
+        files: Vec<&'w str>,
         /// What of it is asked for, and what is told.
         options: RecordingOptions<'w>,
     },
@@ -74,18 +76,44 @@ pub enum Command<'w> {
         /// The schedule's path, as it was given.
         schedule: &'w str,
     },
-    /// Print what a recording of network traffic shows against the protocol.
+    /// Print what recordings of network traffic show against the protocol.
     Audit {
-        /// The recording's path, as it was given.
-        file: &'w str,
+        /// Their paths, as they were given.
+        files: Vec<&'w str>,
         /// What the audit goes by.
         options: AuditOptions<'w>,
     },
 }
 
+/// The options that choose packets of recordings.
+#[derive(Clone, Copy, PartialEq, Eq)]
+pub struct PacketOptions<'w> {
+    /// The text of the interfaces whose packets are looked at. None looks at all.
+    pub interface: Option<&'w str>,
+    /// The text of the VLAN IDs whose packets are looked at. None looks at all.
+    pub vlan: Option<&'w str>,
+    /// The text of the milliseconds within which an equal packet is a copy. None leaves copies in.
+    pub dedup: Option<&'w str>,
+}
+
+/// The options that choose datagrams of recordings by their addresses, their client and their times.
+#[derive(Clone, Copy, PartialEq, Eq)]
+pub struct ChoiceOptions<'w> {
+    /// The text of the addresses whose datagrams are asked for. None asks for all.
+    pub address: Option<&'w str>,
+    /// The text of the Client ID whose datagrams are asked for. None asks for all.
+    pub client: Option<&'w str>,
+    /// The text of the time from which on datagrams are asked for.
+    pub from: Option<&'w str>,
+    /// The text of the time before which they are.
+    pub until: Option<&'w str>,
+}
+
 /// The options of `audit`.
 #[derive(Clone, Copy, PartialEq, Eq)]
 pub struct AuditOptions<'w> {
+    /// Which packets are looked at.
+    pub packets: PacketOptions<'w>,
     /// The text of the ports that are looked at. None looks at the endpoints that are learnt.
     pub ports: Option<&'w str>,
     /// The text of how many milliseconds an answer may take.
@@ -97,8 +125,14 @@ pub struct AuditOptions<'w> {
 /// The options of `recording`.
 #[derive(Clone, Copy, PartialEq, Eq)]
 pub struct RecordingOptions<'w> {
+    /// Which packets are looked at.
+    pub packets: PacketOptions<'w>,
+    /// Which datagrams are asked for, beside ports and services.
+    pub choice: ChoiceOptions<'w>,
     /// The text of the ports whose datagrams are asked for. None asks for all.
     pub ports: Option<&'w str>,
+    /// Whether each line is to begin with the number of its packet.
+    pub frames: bool,
     /// Whether each line is to begin with the time and the endpoints of its datagram.
     pub endpoints: bool,
     /// The text of the services whose datagrams are asked for. None asks for all.
@@ -147,7 +181,7 @@ pub fn command_of<'w, S: AsStr>(alloc: Global, words: &'w [S]) -> Result<Command
         Ok(matches) => matches,
         Err(error) => return Err(line_error(alloc, error)),
     };
-    match matched(&matches) {
+    match matched(alloc, &matches)? {
         Some(command) => Ok(command),
         None => unreachable!(),
     }
@@ -176,28 +210,35 @@ impl From<AllocError> for LineError {
 }
 
 /// The command that the matches say.
-fn matched<'w>(matches: &ArgMatches<'w>) -> Option<Command<'w>>
-    ensures { option_map asked_by_command result ≡ asked_by_entered (subcommand_rows_of matches.now) }
+fn matched<'w>(alloc: Global, matches: &ArgMatches<'w>) -> Result<Option<Command<'w>>, AllocError>
+    ensures { IfOk result (λ command.
+        option_map asked_by_command command ≡ asked_by_entered (subcommand_rows_of matches.now)) }
 {
-    let (name, rest) = matches.subcommand()?;
-    matched_under(name, rest)
+    match matches.subcommand() {
+        Some((name, rest)) => matched_under(alloc, name, rest),
+        None => Ok(None),
+    }
 }
 
 /// The same of the matches under a subcommand's name.
-fn matched_under<'w>(name: &str, rest: &ArgMatches<'w>) -> Option<Command<'w>>
-    ensures { option_map asked_by_command result
-        ≡ asked_by_subcommand name.now (first_value (found_of rest.now)) }
+fn matched_under<'w>(
+    alloc: Global,
+    name: &str,
+    rest: &ArgMatches<'w>,
+) -> Result<Option<Command<'w>>, AllocError>
+    ensures { IfOk result (λ command. option_map asked_by_command command
+        ≡ asked_by_subcommand name.now (first_value (found_of rest.now)) (values_of (found_of rest.now))) }
 {
     match name {
-        "show" => show_matched(rest),
-        "payload" => payload_matched(rest),
-        "encode" => encode_matched(rest),
-        "vectors" => vectors_matched(rest),
-        "run" => run_matched(rest),
-        "recording" => recording_matched(rest),
-        "chart" => chart_matched(rest),
-        "audit" => audit_matched(rest),
-        _ => None,
+        "show" => Ok(show_matched(rest)),
+        "payload" => Ok(payload_matched(rest)),
+        "encode" => Ok(encode_matched(rest)),
+        "vectors" => Ok(vectors_matched(rest)),
+        "run" => Ok(run_matched(rest)),
+        "recording" => recording_matched(alloc, rest),
+        "chart" => Ok(chart_matched(rest)),
+        "audit" => audit_matched(alloc, rest),
+        _ => Ok(None),
     }
 }
 
@@ -249,21 +290,62 @@ fn run_matched<'w>(matches: &ArgMatches<'w>) -> Option<Command<'w>>
     })
 }
 
-fn recording_matched<'w>(matches: &ArgMatches<'w>) -> Option<Command<'w>>
-    ensures { option_map asked_by_command result ≡ asked_by_recording (first_value (found_of matches.now)) }
+fn recording_matched<'w>(
+    alloc: Global,
+    matches: &ArgMatches<'w>,
+) -> Result<Option<Command<'w>>, AllocError>
+    ensures { IfOk result (λ command. option_map asked_by_command command
+        ≡ asked_by_recording (first_value (found_of matches.now)) (values_of (found_of matches.now))) }
 {
-    let file = matches.get_str("file")?;
-    Some(Command::Recording {
-        file,
+    if matches.get_str("file").is_none() {
+        return Ok(None);
+    }
+    let files = files_matched(alloc, matches)?;
+    Ok(Some(Command::Recording {
+        files,
         options: options_matched(matches),
-    })
+    }))
+}
+
+/// The paths that stand behind a command which takes one or more.
+fn files_matched<'w>(alloc: Global, matches: &ArgMatches<'w>) -> Result<Vec<&'w str>, AllocError>
+    ensures { IfOk result (λ files. texts_at files.items ≡ values_of (found_of matches.now) (codes "file")) }
+{
+    match matches.get_strs("file") {
+        Some(files) => files.to_vec(alloc),
+        None => Ok(Vec::new(alloc)),
+    }
+}
+
+fn packets_matched<'w>(matches: &ArgMatches<'w>) -> PacketOptions<'w>
+    ensures { asked_by_packets result ≡ packet_options_by (first_value (found_of matches.now)) }
+{
+    PacketOptions {
+        interface: matches.get_str("interface"),
+        vlan: matches.get_str("vlan"),
+        dedup: matches.get_str("dedup"),
+    }
+}
+
+fn choice_matched<'w>(matches: &ArgMatches<'w>) -> ChoiceOptions<'w>
+    ensures { asked_by_choice result ≡ choice_options_by (first_value (found_of matches.now)) }
+{
+    ChoiceOptions {
+        address: matches.get_str("address"),
+        client: matches.get_str("client"),
+        from: matches.get_str("from"),
+        until: matches.get_str("until"),
+    }
 }
 
 fn options_matched<'w>(matches: &ArgMatches<'w>) -> RecordingOptions<'w>
     ensures { asked_by_options result ≡ recording_options_by (first_value (found_of matches.now)) }
 {
     RecordingOptions {
+        packets: packets_matched(matches),
+        choice: choice_matched(matches),
         ports: matches.get_str("ports"),
+        frames: is_given(matches, "frames"),
         endpoints: is_given(matches, "endpoints"),
         service: matches.get_str("service"),
         types: matches.get_str("types"),
@@ -282,20 +364,28 @@ fn chart_matched<'w>(matches: &ArgMatches<'w>) -> Option<Command<'w>>
     Some(Command::Chart { setup, schedule })
 }
 
-fn audit_matched<'w>(matches: &ArgMatches<'w>) -> Option<Command<'w>>
-    ensures { option_map asked_by_command result ≡ asked_by_audit (first_value (found_of matches.now)) }
+fn audit_matched<'w>(
+    alloc: Global,
+    matches: &ArgMatches<'w>,
+) -> Result<Option<Command<'w>>, AllocError>
+    ensures { IfOk result (λ command. option_map asked_by_command command
+        ≡ asked_by_audit (first_value (found_of matches.now)) (values_of (found_of matches.now))) }
 {
-    let file = matches.get_str("recording")?;
-    Some(Command::Audit {
-        file,
+    if matches.get_str("file").is_none() {
+        return Ok(None);
+    }
+    let files = files_matched(alloc, matches)?;
+    Ok(Some(Command::Audit {
+        files,
         options: audit_options_matched(matches),
-    })
+    }))
 }
 
 fn audit_options_matched<'w>(matches: &ArgMatches<'w>) -> AuditOptions<'w>
     ensures { asked_by_audit_options result ≡ audit_options_by (first_value (found_of matches.now)) }
 {
     AuditOptions {
+        packets: packets_matched(matches),
         ports: matches.get_str("ports"),
         answer_ms: matches.get_str("answer-ms"),
         settle_ms: matches.get_str("settle-ms"),

@@ -110,31 +110,32 @@ node does that still runs.";
 
 /// Of `recording`.
 pub(crate) const RECORDING_EXAMPLE: &str = "\
-A recording is a file of classic pcap or pcapng, as tcpdump and Wireshark write it. Of each UDP
-datagram over IPv4 in it the lines are printed that `show` prints of a datagram of a capture, as it
-is read. Those that are printed are counted from 1. Packets without such a datagram are left out,
-and how many of each kind these are is told on standard error at the end, which is no fault. A fault
-of the recording ends it: what comes before it is printed, and then the fault on standard error.
-As - the recording comes on standard input:
+A FILE is a recording of classic pcap or pcapng, as tcpdump and Wireshark write it; several are one
+recording, in this order. Of each UDP datagram over IPv4 in it the lines are printed that `show`
+prints of a datagram of a capture, as it is read. Those that are printed are counted from 1. Packets
+without such a datagram are left out, and how many of each kind these are is told on standard error
+at the end, which is no fault. A fault of a recording ends all: what comes before it is printed, and
+then the fault on standard error. As - a recording comes on standard input:
   tcpdump -i eth0 -U -w - udp | someipctl recording -
-PORTS are numbers from 1 to 65535 with commas between them, as in 30490,30509.
-So the call
+PORTS, A, SERVICES, N of --interface and ID are lists with commas between their words, as in
+30490,30509. C is four hex digits, and TIME has up to nine decimals. A datagram is printed where each
+option lets it through. So the call
   someipctl recording --ports 30509 examples/one.pcap
 prints
   1 message 1234.0421 length 8 client 0001 session 0001 interface 01 type REQUEST code 00 payload -
 and with --endpoints the same line begins with
   1700000000.000001000 192.168.0.2:40001 192.168.0.1:30509
 which are the time in seconds since 1970, - where the recording has none, and where the datagram
-came from and went to.";
+came from and went to. With --frames #1 stands before it, the number of the packet in all files.";
 
 /// Of `audit`.
 pub(crate) const AUDIT_EXAMPLE: &str = "\
-RECORDING is one of `recording`, as - on standard input. Its datagrams from or to port 30490 are looked
+FILE, N of --interface, ID and MS are those of `recording`. Datagrams from or to port 30490 are looked
 at, and beside these those at the endpoints that Offers and Subscribes before named, or at PORTS. A line
 is printed for each thing that is not as it should be, as it is read, and at last the summary. A line is
   TIME K FROM TO FINDING
 where TIME is in seconds since 1970, - where the recording has none, and K is the number of the datagram
-in the recording, counted from 1. Of what had no answer or did not come in time, TIME is when it was due,
+in all files, counted from 1. Of what had no answer or did not come in time, TIME is when it was due,
 and K, FROM and TO are of the request, the first segment, the newest Offer or the Subscribe. So the call
   someipctl audit examples/audit.pcap
 prints first

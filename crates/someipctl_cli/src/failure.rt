@@ -4,14 +4,14 @@
 //! `BadCaptureLine`, `line L: bad step` at `ScheduleError`, `bad shape at P` at `ShapeTextError`. The
 //! `Failure` of the program prints that one.
 ghost use Rattle.std.specs.Prelude.{◌≡◌};
-ghost use Rattle.someipctl_cli.specs.Failures.{failure_of, failure_of_ports, failure_of_services};
+ghost use Rattle.someipctl_cli.specs.Failures.{failure_of, failure_of_list, failure_of_services};
 ghost use Rattle.someipctl_cli.specs.Failures.{status_of_failure};
 
 use recording::RecordingError;
 use someipctl_io::{Fault, ReadFault};
 use someipctl_recordings::LimitsError;
 use someipctl_recordings::audit::TimesError;
-use someipctl_recordings::ports::PortsError;
+use someipctl_recordings::lists::ListError;
 use someipctl_run::{BadTraceLine, ScheduleRefusal, SetupRefusal};
 use someipctl_show::BadCaptureLine;
 use someipctl_show::payload::PayloadRefusal;
@@ -49,26 +49,50 @@ pub enum Refusal {
     Types(TypesRefusal),
 }
 
+/// An option of `recording` or `audit` whose value is checked behind the words of the call.
+#[derive(Clone, Copy, Debug, PartialEq, Eq)]
+pub enum OptionName {
+    /// `--ports`.
+    Ports,
+    /// `--address`.
+    Address,
+    /// `--client`.
+    Client,
+    /// `--from`.
+    From,
+    /// `--until`.
+    Until,
+    /// `--interface`.
+    Interface,
+    /// `--vlan`.
+    Vlan,
+    /// `--dedup`.
+    Dedup,
+}
+
 /// Why the program did not do its work. Printed, it is the text for standard error.
 #[derive(Debug, Drop, Error)]
 pub enum Failure<'p> {
     /// An input is refused.
     #[error(transparent)]
     Refused(Refusal),
-    /// This text names no ports, of a command that is used so.
-    #[error("error: invalid value '{0}' for '--ports <PORTS>': ports are numbers from 1 to 65535 with commas between them\n\nUsage: someipctl {1}")]
-    BadPorts(&'p str, &'static str),
+    /// One of several recordings, at this path, has a fault. What comes before it was shown.
+    #[error("recording: {0}: {1}")]
+    RecordingOf(&'p str, RecordingError),
+    /// This text is no value of an option, of a command that is used so.
+    #[error("error: invalid value '{}' for '{}': {}\n\nUsage: someipctl {}", .1, form_of(*.0), values_of(*.0), .2)]
+    BadOption(OptionName, &'p str, &'static str),
     /// This text names no services, of a command that is used so.
     #[error("error: invalid value '{0}' for '--service <SERVICES>': services are four hex digits, perhaps with a dot and four more, with commas between them\n\nUsage: someipctl {1}")]
     BadServices(&'p str, &'static str),
     /// One of the limits of messages that are put together is none.
-    #[error("error: invalid value for '{}': {}\n\nUsage: someipctl recording [OPTIONS] <FILE>", option_of(*.0), .0)]
+    #[error("error: invalid value for '{}': {}\n\nUsage: someipctl recording [OPTIONS] <FILE>...", option_of(*.0), .0)]
     BadLimits(LimitsError),
     /// One of the times of an audit is none.
-    #[error("error: invalid value for '{}': {}\n\nUsage: someipctl audit [OPTIONS] <RECORDING>", option_of_time(*.0), .0)]
+    #[error("error: invalid value for '{}': {}\n\nUsage: someipctl audit [OPTIONS] <FILE>...", option_of_time(*.0), .0)]
     BadTimes(TimesError),
     /// Such a limit was given, and messages are not put together.
-    #[error("error: limits of whole messages need '--whole'\n\nUsage: someipctl recording [OPTIONS] <FILE>")]
+    #[error("error: limits of whole messages need '--whole'\n\nUsage: someipctl recording [OPTIONS] <FILE>...")]
     LimitAlone,
     /// Both a whole trace and the beginning of one are expected of a run.
     #[error("error: the argument '--expect <TRACE>' cannot be used with '--begins <TRACE>'\n\nUsage: someipctl run [OPTIONS] <SETUP> <SCHEDULE>")]
@@ -97,10 +121,10 @@ impl<'p> Failure<'p> {
         ensures { result ≡ status_of_failure self.now }
     {
         match self {
-            Failure::Refused(_) => 1,
+            Failure::Refused(_) | Failure::RecordingOf(_, _) => 1,
             Failure::Usage(_)
             | Failure::NotText
-            | Failure::BadPorts(_, _)
+            | Failure::BadOption(_, _, _)
             | Failure::BadServices(_, _)
             | Failure::BadLimits(_)
             | Failure::BadTimes(_)
@@ -123,13 +147,18 @@ impl<'p> Failure<'p> {
         }
     }
 
-    /// Why a text names no ports, of a command that is used so.
-    pub fn of_ports(error: PortsError, text: &'p str, usage: &'static str) -> Failure<'p>
-        ensures { result ≡ failure_of_ports error text.entry usage.entry }
+    /// Why a text of an option names no list, of a command that is used so.
+    pub fn of_list(
+        error: ListError,
+        option: OptionName,
+        text: &'p str,
+        usage: &'static str,
+    ) -> Failure<'p>
+        ensures { result ≡ failure_of_list error option text.entry usage.entry }
     {
         match error {
-            PortsError::BadPorts => Failure::BadPorts(text, usage),
-            PortsError::OutOfMemory => Failure::OutOfMemory,
+            ListError::BadList => Failure::BadOption(option, text, usage),
+            ListError::OutOfMemory => Failure::OutOfMemory,
         }
     }
 
@@ -141,6 +170,35 @@ impl<'p> Failure<'p> {
             ServicesError::BadServices => Failure::BadServices(text, usage),
             ServicesError::OutOfMemory => Failure::OutOfMemory,
         }
+    }
+}
+
+/// The option with what help calls its value.
+fn form_of(option: OptionName) -> &'static str {
+    match option {
+        OptionName::Ports => "--ports <PORTS>",
+        OptionName::Address => "--address <A>",
+        OptionName::Client => "--client <C>",
+        OptionName::From => "--from <TIME>",
+        OptionName::Until => "--until <TIME>",
+        OptionName::Interface => "--interface <N>",
+        OptionName::Vlan => "--vlan <ID>",
+        OptionName::Dedup => "--dedup <MS>",
+    }
+}
+
+/// What its values are.
+fn values_of(option: OptionName) -> &'static str {
+    match option {
+        OptionName::Ports => "ports are numbers from 1 to 65535 with commas between them",
+        OptionName::Address => "addresses are IPv4 addresses with commas between them",
+        OptionName::Client => "a client is four hex digits",
+        OptionName::From | OptionName::Until => {
+            "a time is seconds since 1970, perhaps with a dot and up to nine decimals"
+        }
+        OptionName::Interface => "interfaces are numbers from 0 to 65535 with commas between them",
+        OptionName::Vlan => "VLAN IDs are numbers from 0 to 4095 with commas between them",
+        OptionName::Dedup => "copies come within 1 to 60000 milliseconds",
     }
 }
 

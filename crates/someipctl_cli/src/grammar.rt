@@ -2,13 +2,14 @@
 //!
 //! The options of `--whole` without it are a fault of usage: they would change nothing, and whoever gives
 //! them meant to give it.
-ghost use Rattle.std.specs.Prelude.{◌≡◌, IfOk, false};
+ghost use Rattle.std.specs.Prelude.{◌≡◌, IfOk, codes, false};
 ghost use Rattle.clap.specs.Words.{App, Rule, Shape, app_of, rule_of, shape_of, with_rule, with_subcommand};
 ghost use Rattle.clap.specs.declared.builder.Command.TheViews.{out-Command};
 ghost use Rattle.someipctl_cli.specs.CommandLine.{audit_usage, chart_usage, cli, encode_usage, payload_usage, program};
 ghost use Rattle.someipctl_cli.specs.CommandLine.{recording_usage, run_usage, show_usage, vectors_usage};
-ghost use Rattle.someipctl_cli.specs.CommandLine.{flag as flag_rule, required, valued};
-ghost use Rattle.someipctl_cli.specs.CommandLine.{with_filters, with_inputs, with_whole};
+ghost use Rattle.someipctl_cli.specs.CommandLine.{flag as flag_rule, required, required_many, valued};
+ghost use Rattle.someipctl_cli.specs.CommandLine.{with_choice, with_filters, with_heads, with_inputs, with_packets};
+ghost use Rattle.someipctl_cli.specs.CommandLine.{with_whole};
 
 use crate::examples::{
     AUDIT_EXAMPLE, CHART_EXAMPLE, ENCODE_EXAMPLE, PAYLOAD_EXAMPLE, PROGRAM_EXAMPLE,
@@ -135,7 +136,7 @@ fn recording_definition<'d>(alloc: Global) -> Result<clap::Command<'d>, AllocErr
     ensures local { IfOk result (λ command. (out-Command command).has_globals ≡ false) }
 {
     let command = clap::Command::new(alloc, "recording")
-        .about("Prints the messages of a recording of network traffic")
+        .about("Prints the messages of recordings of network traffic")
         .after_help(RECORDING_EXAMPLE);
     let ports = valued_option(
         alloc,
@@ -143,21 +144,10 @@ fn recording_definition<'d>(alloc: Global) -> Result<clap::Command<'d>, AllocErr
         "PORTS",
         "Prints only datagrams from or to one of these ports",
     );
-    let endpoints = flag(
-        alloc,
-        "endpoints",
-        "Puts time, sender and receiver before each line",
-    );
-    let file = explained(
-        alloc,
-        "file",
-        "FILE",
-        "The path of a recording, - for standard input",
-    );
-    let first = taking(Ok(command), ports);
-    let second = taking(first, endpoints);
-    let third = add_filters(alloc, second);
-    taking(add_whole(alloc, third), file)
+    let first = add_heads(alloc, taking(Ok(command), ports));
+    let second = add_choice(alloc, add_filters(alloc, first));
+    let third = add_whole(alloc, add_packets(alloc, second));
+    taking(third, files(alloc))
 }
 
 fn chart_definition<'d>(alloc: Global) -> Result<clap::Command<'d>, AllocError>
@@ -175,7 +165,7 @@ fn audit_definition<'d>(alloc: Global) -> Result<clap::Command<'d>, AllocError>
     ensures local { IfOk result (λ command. (out-Command command).has_globals ≡ false) }
 {
     let command = clap::Command::new(alloc, "audit")
-        .about("Prints what a recording of network traffic shows against the protocol")
+        .about("Prints what recordings of network traffic show against the protocol")
         .after_help(AUDIT_EXAMPLE);
     let ports = valued_option(
         alloc,
@@ -195,16 +185,10 @@ fn audit_definition<'d>(alloc: Global) -> Result<clap::Command<'d>, AllocError>
         "N",
         "The milliseconds at first in which no event without a subscription is told, 10000 without it",
     );
-    let file = explained(
-        alloc,
-        "recording",
-        "RECORDING",
-        "The path of a recording, - for standard input",
-    );
     let first = taking(Ok(command), ports);
     let second = taking(first, answer);
-    let third = taking(second, settle);
-    taking(third, file)
+    let third = add_packets(alloc, taking(second, settle));
+    taking(third, files(alloc))
 }
 
 /// The command with the two files of a run as its further arguments.
@@ -244,6 +228,102 @@ fn add_filters<'d>(
         "Prints the values of the payloads whose shapes this file tells",
     );
     taking(taking(command, service), types)
+}
+
+/// The command with the options that say what stands before each line.
+fn add_heads<'d>(
+    alloc: Global,
+    command: Result<clap::Command<'d>, AllocError>,
+) -> Result<clap::Command<'d>, AllocError>
+    ensures app { (app : App) → IfOk command.entry (λ c. app_of c ≡ app)
+        → IfOk result (λ r. app_of r ≡ with_heads app) }
+    ensures local { IfOk command.entry (λ c. (out-Command c).has_globals ≡ false)
+        → IfOk result (λ r. (out-Command r).has_globals ≡ false) }
+{
+    let frames = flag(
+        alloc,
+        "frames",
+        "Puts the number of its packet before each line",
+    );
+    let endpoints = flag(
+        alloc,
+        "endpoints",
+        "Puts time, sender and receiver before each line",
+    );
+    taking(taking(command, frames), endpoints)
+}
+
+/// The command with the options that choose datagrams by their addresses, their client and their times.
+fn add_choice<'d>(
+    alloc: Global,
+    command: Result<clap::Command<'d>, AllocError>,
+) -> Result<clap::Command<'d>, AllocError>
+    ensures app { (app : App) → IfOk command.entry (λ c. app_of c ≡ app)
+        → IfOk result (λ r. app_of r ≡ with_choice app) }
+    ensures local { IfOk command.entry (λ c. (out-Command c).has_globals ≡ false)
+        → IfOk result (λ r. (out-Command r).has_globals ≡ false) }
+{
+    let address = valued_option(
+        alloc,
+        "address",
+        "A",
+        "Prints only datagrams from or to one of these addresses",
+    );
+    let client = valued_option(
+        alloc,
+        "client",
+        "C",
+        "Prints only datagrams with a message of this client",
+    );
+    let from = valued_option(
+        alloc,
+        "from",
+        "TIME",
+        "Prints only datagrams from this time on, in seconds since 1970",
+    );
+    let until = valued_option(
+        alloc,
+        "until",
+        "TIME",
+        "Prints only datagrams before this time",
+    );
+    let first = taking(command, address);
+    let second = taking(first, client);
+    let third = taking(second, from);
+    taking(third, until)
+}
+
+/// The command with the options that choose packets.
+fn add_packets<'d>(
+    alloc: Global,
+    command: Result<clap::Command<'d>, AllocError>,
+) -> Result<clap::Command<'d>, AllocError>
+    ensures app { (app : App) → IfOk command.entry (λ c. app_of c ≡ app)
+        → IfOk result (λ r. app_of r ≡ with_packets app) }
+    ensures local { IfOk command.entry (λ c. (out-Command c).has_globals ≡ false)
+        → IfOk result (λ r. (out-Command r).has_globals ≡ false) }
+{
+    let interface = valued_option(
+        alloc,
+        "interface",
+        "N",
+        "Looks only at packets of one of these interfaces, counted from 0",
+    );
+    let vlan = valued_option(
+        alloc,
+        "vlan",
+        "ID",
+        "Looks only at packets with one of these VLAN IDs",
+    );
+    let dedup = valued_option(
+        alloc,
+        "dedup",
+        "MS",
+        "Leaves out packets that equal one of so many milliseconds before",
+    );
+    let first = taking(command, interface);
+    let second = taking(first, vlan);
+    taking(second, dedup)
 }
 
 /// The command with the options on messages that are put together.
@@ -309,6 +389,20 @@ fn explained<'d>(alloc: Global, name: &'d str, value_name: &'d str, help: &'d st
     ensures local { result.global ≡ false }
 {
     needed(alloc, name, value_name).help(help)
+}
+
+/// The paths of recordings, of which a call has one or more.
+fn files<'d>(alloc: Global) -> Arg<'d>
+    ensures rule { rule_of result ≡ required_many (codes "file") }
+    ensures local { result.global ≡ false }
+{
+    explained(
+        alloc,
+        "file",
+        "FILE",
+        "The path of a recording, - for standard input; several are one recording",
+    )
+    .action(ArgAction::Append)
 }
 
 /// An option with a value, by its name.

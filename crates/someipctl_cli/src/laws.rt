@@ -4,7 +4,8 @@ ghost use Rattle.std.specs.Prelude.{◌≡◌, ◌∷◌, [], codes, false, true
 ghost use Rattle.someipctl_cli.specs.CommandLine.{CallsForHelp, HaveFault, IsTaken, is_flag, line};
 ghost use Rattle.someipctl_cli.specs.CommandLine.{requested, show_request, encode_request, vectors_request, run_request};
 ghost use Rattle.someipctl_cli.specs.CommandLine.{recording_options_of, recording_request, chart_request};
-ghost use Rattle.someipctl_cli.specs.CommandLine.{audit_options_of, audit_request};
+ghost use Rattle.someipctl_cli.specs.CommandLine.{audit_options_of, audit_request, choice_options_of, no_choice, no_packets};
+ghost use Rattle.someipctl_cli.specs.CommandLine.{packet_options_of};
 
 use clap::error::ErrorKind;
 
@@ -46,22 +47,30 @@ pub fn calls_by_example()
         ∷ codes "x" ∷ [])) ≡ Some (show_request (codes "x") (Some (codes "1111")) (Some (codes "t"))) }
 
     ensures recording { requested (line (codes "recording" ∷ codes "x" ∷ []))
-        ≡ Some (recording_request (codes "x") (recording_options_of None None None None None None None None)) }
+        ≡ Some (recording_request (codes "x" ∷ []) (recording_options_of no_packets no_choice None None None None None None
+        None None None)) }
 
     // Options may also stand after the file, and have their value after `=`.
     ensures recording_options { requested (line (codes "recording" ∷ codes "x" ∷ codes "--ports=1,2"
         ∷ codes "--endpoints" ∷ codes "--whole" ∷ codes "--whole-slots" ∷ codes "4" ∷ []))
-        ≡ Some (recording_request (codes "x") (recording_options_of (Some (codes "1,2")) (Some (codes "true"))
-        None None (Some (codes "true")) None (Some (codes "4")) None)) }
+        ≡ Some (recording_request (codes "x" ∷ []) (recording_options_of no_packets no_choice (Some (codes "1,2")) None
+        (Some (codes "true")) None None (Some (codes "true")) None (Some (codes "4")) None)) }
+
+    // Several files are one recording, in their order.
+    ensures files { requested (line (codes "recording" ∷ codes "b" ∷ codes "--frames" ∷ codes "--vlan" ∷ codes "7"
+        ∷ codes "--from" ∷ codes "5" ∷ codes "a" ∷ codes "b" ∷ [])) ≡ Some (recording_request
+        (codes "b" ∷ codes "a" ∷ codes "b" ∷ []) (recording_options_of (packet_options_of None (Some (codes "7")) None)
+        (choice_options_of None None (Some (codes "5")) None) None (Some (codes "true")) None None None None None None
+        None)) }
 
     ensures chart { requested (line (codes "chart" ∷ codes "x" ∷ codes "y" ∷ []))
         ≡ Some (chart_request (codes "x") (codes "y")) }
 
     ensures audit { requested (line (codes "audit" ∷ codes "x" ∷ []))
-        ≡ Some (audit_request (codes "x") (audit_options_of None None None)) }
+        ≡ Some (audit_request (codes "x" ∷ []) (audit_options_of no_packets None None None)) }
     ensures audit_options { requested (line (codes "audit" ∷ codes "--ports" ∷ codes "1,2" ∷ codes "--answer-ms" ∷ codes "5"
-        ∷ codes "--settle-ms" ∷ codes "0" ∷ codes "x" ∷ [])) ≡ Some (audit_request (codes "x")
-        (audit_options_of (Some (codes "1,2")) (Some (codes "5")) (Some (codes "0")))) }
+        ∷ codes "--settle-ms" ∷ codes "0" ∷ codes "x" ∷ [])) ≡ Some (audit_request (codes "x" ∷ [])
+        (audit_options_of no_packets (Some (codes "1,2")) (Some (codes "5")) (Some (codes "0")))) }
 
     // An option without its value, and one that was given twice.
     ensures bare_expect { HaveFault (line (codes "run" ∷ codes "x" ∷ codes "y" ∷ codes "--expect" ∷ []))

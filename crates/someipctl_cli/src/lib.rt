@@ -22,8 +22,11 @@ mod grammar;
 mod help;
 pub mod laws;
 mod program;
+mod source;
 
-pub use command::{AuditOptions, Command, LineError, RecordingOptions, command_of};
-pub use failure::{Failure, Refusal};
+pub use command::{
+    AuditOptions, ChoiceOptions, Command, LineError, PacketOptions, RecordingOptions, command_of,
+};
+pub use failure::{Failure, OptionName, Refusal};
 pub use help::answer_error;
 pub use program::{answer, report, run, words_of};

@@ -4,15 +4,24 @@ ghost use Rattle.std.specs.Prelude.{◌≡◌, true, false};
 ghost use Rattle.someipctl_run.specs.declared.form.TraceForm.TheVariants.{Plain, WithLines};
 ghost use Rattle.someipctl_cli.specs.Failures.{status_of_failure};
 
-use crate::command::{AuditOptions, Command, RecordingOptions, command_of};
-use crate::failure::{Failure, Refusal};
+use crate::command::{
+    AuditOptions, ChoiceOptions, Command, PacketOptions, RecordingOptions, command_of,
+};
+use crate::failure::{Failure, OptionName, Refusal};
 use crate::help::answer_error;
+use crate::source::Source;
+use recording::Time;
+use recording_packets::ChosenPackets;
 use someip_tp::IntervalPool;
 use someip_world::Setup;
 use someipctl_io::Outcome;
 use someipctl_recordings::audit::{AuditAsked, rules_in, show_audit};
-use someipctl_recordings::ports::ports_in;
-use someipctl_recordings::{Asked, ShownRecording, WholeLimits, limits_in, show_recording};
+use someipctl_recordings::choice::{client_in, time_in};
+use someipctl_recordings::lists::{addresses_in, numbers_in};
+use someipctl_recordings::{
+    Asked, FileFault, Heads, ShownRecording, StoppedAt, Wanted, WholeLimits, limits_in,
+    number_within, show_recording,
+};
 use someipctl_run::chart::chart_schedule;
 use someipctl_run::{
     Extent, TraceForm, compare_schedule, read_expected, read_setup, run_schedule_in_form,
@@ -30,16 +39,35 @@ use std::{env, fs, io};
 /// How `show`, `recording` and `audit` are used.
 const SHOW_USAGE: &str = "show [OPTIONS] <CAPTURE>";
 
-const RECORDING_USAGE: &str = "recording [OPTIONS] <FILE>";
+const RECORDING_USAGE: &str = "recording [OPTIONS] <FILE>...";
 
-const AUDIT_USAGE: &str = "audit [OPTIONS] <RECORDING>";
+const AUDIT_USAGE: &str = "audit [OPTIONS] <FILE>...";
 
-/// Which datagrams of a recording are shown, and whether messages are put together.
-#[derive(Clone, Copy)]
-struct Filter<'a> {
-    ports: Option<&'a [u16]>,
-    services: Option<&'a [AskedService]>,
-    whole: Option<WholeLimits>,
+/// The interfaces and the VLAN IDs whose packets are looked at, if they are named.
+#[derive(Drop)]
+struct PacketLists {
+    interfaces: Option<Vec<u16>>,
+    vlans: Option<Vec<u16>>,
+    window_ns: Option<u64>,
+}
+
+impl PacketLists {
+    fn chosen(&self) -> ChosenPackets<'_> {
+        ChosenPackets {
+            interfaces: self.interfaces.as_deref(),
+            vlans: self.vlans.as_deref(),
+            window_ns: self.window_ns,
+        }
+    }
+}
+
+/// The addresses, the client and the times whose datagrams are asked for, if they are named.
+#[derive(Drop)]
+struct Choice {
+    addresses: Option<Vec<u32>>,
+    client: Option<u16>,
+    from: Option<Time>,
+    until: Option<Time>,
 }
 
 /// The program: does what its arguments ask for, tells on standard error what kept it from that, and gives the
@@ -126,8 +154,8 @@ fn run_command<'w, R: Files + Print + Eprint + Input + AllocGlobal>(
             run_files(rt, setup, schedule, wanted, form_of(lines))
         }
         Command::Chart { setup, schedule } => chart_files(rt, setup, schedule),
-        Command::Recording { file, options } => show_recorded(rt, file, options),
-        Command::Audit { file, options } => audit_recorded(rt, file, options),
+        Command::Recording { files, options } => show_recorded(rt, &files, options),
+        Command::Audit { files, options } => audit_recorded(rt, &files, options),
     }
 }
 
@@ -147,62 +175,106 @@ fn show_file<'p, R: Files + Print + AllocGlobal>(
     ))
 }
 
-/// Shows a recording, and then tells on standard error what was left out of it, and its fault, if it has one.
-/// Whatever is wrong with the options is told before a file is looked at, and whatever is wrong with the types
-/// file before the recording is.
+/// Shows recordings, and then tells on standard error what was left out of them, and their fault, if they have
+/// one. Whatever is wrong with the options is told before a file is looked at, and whatever is wrong with the
+/// types file before the recordings are.
 fn show_recorded<'p, R: Files + Print + Eprint + Input + AllocGlobal>(
     rt: &R,
-    path: &'p str,
+    paths: &[&'p str],
     options: RecordingOptions<'p>,
 ) -> Result<Outcome, Failure<'p>> {
     let ports = ports_of(rt, options.ports, RECORDING_USAGE)?;
     let services = services_of(rt, options.service, RECORDING_USAGE)?;
-    let filter = Filter {
+    let lists = packet_lists(rt, options.packets, RECORDING_USAGE)?;
+    let choice = choice_of(rt, options.choice)?;
+    let wanted = Wanted {
+        packets: lists.chosen(),
         ports: ports.as_deref(),
+        addresses: choice.addresses.as_deref(),
         services: services.as_deref(),
-        whole: whole_of(&options)?,
+        client: choice.client,
+        from: choice.from,
+        until: choice.until,
     };
-    show_filtered(rt, path, options, &filter)
+    show_wanted(rt, paths, options, wanted)
 }
 
-/// The same, where the options are right.
-fn show_filtered<'p, R: Files + Print + Eprint + Input + AllocGlobal>(
+/// The same, where what is asked for is right.
+fn show_wanted<'p, R: Files + Print + Eprint + Input + AllocGlobal>(
     rt: &R,
-    path: &'p str,
+    paths: &[&'p str],
     options: RecordingOptions<'p>,
-    filter: &Filter<'_>,
+    wanted: Wanted<'_>,
 ) -> Result<Outcome, Failure<'p>> {
+    let whole = whole_of(&options)?;
     let types = types_at(rt, options.types)?;
     let asked = Asked {
-        ports: filter.ports,
-        services: filter.services,
+        wanted,
         types: &types,
-        endpoints: options.endpoints,
-        whole: filter.whole,
+        heads: Heads {
+            frame: options.frames,
+            endpoints: options.endpoints,
+        },
+        whole,
     };
-    end_recording(rt, show_recording_at(rt, path, &asked)?)
+    let mut sources = open_sources(rt, paths)?;
+    let mut writer = io::writer(rt);
+    let shown = show_recording::<IntervalPool, _, _>(
+        rt.alloc(),
+        sources.as_mut_slice(),
+        &asked,
+        &mut writer,
+    );
+    end_recording(rt, paths, shown)
 }
 
-/// Tells what was left out of a recording, and its fault, if it has one.
-fn end_recording<R: Eprint>(rt: &R, shown: ShownRecording) -> Result<Outcome, Failure<'static>> {
+/// Tells what was left out of recordings, and their fault, if they have one.
+fn end_recording<'p, R: Eprint>(
+    rt: &R,
+    paths: &[&'p str],
+    shown: Result<ShownRecording, StoppedAt>,
+) -> Result<Outcome, Failure<'p>> {
+    let shown = match shown {
+        Ok(shown) => shown,
+        Err(stopped) => return Err(stopped_at(paths, stopped)),
+    };
     if !shown.left_out.is_empty() {
         // Where standard error can't be written, what was printed stands all the same.
         let _ = eprintln!(rt; "recording: {}", shown.left_out);
     }
     match shown.fault {
-        Some(fault) => Err(Failure::Refused(Refusal::Recording(fault))),
+        Some(found) => Err(fault_at(paths, found)),
         None => Ok(shown.outcome),
     }
 }
 
-/// Shows the audit of a recording, and then tells on standard error what was left out of it, and its fault, if it
-/// has one. Whatever is wrong with the options is told before the recording is looked at.
+/// Why one of these recordings was not gone over.
+fn stopped_at<'p>(paths: &[&'p str], stopped: StoppedAt) -> Failure<'p> {
+    let path = match paths.get(stopped.file) {
+        Some(path) => *path,
+        // It is no file that stopped it.
+        None => "",
+    };
+    Failure::of(stopped.fault.map(|never| match never {}), path)
+}
+
+/// The fault of one of these recordings, which is named where there are several.
+fn fault_at<'p>(paths: &[&'p str], found: FileFault) -> Failure<'p> {
+    match paths.get(found.file) {
+        Some(path) if paths.len() > 1 => Failure::RecordingOf(*path, found.fault),
+        _ => Failure::Refused(Refusal::Recording(found.fault)),
+    }
+}
+
+/// Shows the audit of recordings, and then tells on standard error what was left out of them, and their fault,
+/// if they have one. Whatever is wrong with the options is told before a recording is looked at.
 fn audit_recorded<'p, R: Files + Print + Eprint + Input + AllocGlobal>(
     rt: &R,
-    path: &'p str,
+    paths: &[&'p str],
     options: AuditOptions<'p>,
 ) -> Result<Outcome, Failure<'p>> {
     let ports = ports_of(rt, options.ports, AUDIT_USAGE)?;
+    let lists = packet_lists(rt, options.packets, AUDIT_USAGE)?;
     let rules = match rules_in(options.answer_ms, options.settle_ms) {
         Ok(rules) => rules,
         Err(error) => return Err(Failure::BadTimes(error)),
@@ -210,24 +282,17 @@ fn audit_recorded<'p, R: Files + Print + Eprint + Input + AllocGlobal>(
     let asked = AuditAsked {
         rules,
         ports: ports.as_deref(),
+        packets: lists.chosen(),
     };
-    end_recording(rt, show_audit_at(rt, path, &asked)?)
-}
-
-/// Shows the audit of the recording at a path, or of the one that comes on standard input, which is called `-`.
-fn show_audit_at<'p, R: Files + Print + Input + AllocGlobal>(
-    rt: &R,
-    path: &'p str,
-    asked: &AuditAsked<'_>,
-) -> Result<ShownRecording, Failure<'p>> {
+    let mut sources = open_sources(rt, paths)?;
     let mut writer = io::writer(rt);
-    let shown = if path == "-" {
-        show_audit::<IntervalPool, _, _>(rt.alloc(), &mut rt.reader(), asked, &mut writer)
-    } else {
-        let mut file = open_file(rt, path)?;
-        show_audit::<IntervalPool, _, _>(rt.alloc(), &mut file, asked, &mut writer)
-    };
-    shown.map_err(|fault| Failure::of(fault.map(|never| match never {}), path))
+    let shown = show_audit::<IntervalPool, _, _>(
+        rt.alloc(),
+        sources.as_mut_slice(),
+        &asked,
+        &mut writer,
+    );
+    end_recording(rt, paths, shown)
 }
 
 /// The ports that are asked for, if they are named, of a command that is used so.
@@ -239,9 +304,104 @@ fn ports_of<'p, R: AllocGlobal>(
     let Some(text) = text else {
         return Ok(None);
     };
-    match ports_in(rt.alloc(), text) {
-        Ok(ports) => Ok(Some(ports)),
-        Err(error) => Err(Failure::of_ports(error, text, usage)),
+    numbers_of(rt, OptionName::Ports, Some(text), (1, 65535), usage)
+}
+
+/// The numbers of an option that lie between these, if it is given, of a command that is used so.
+fn numbers_of<'p, R: AllocGlobal>(
+    rt: &R,
+    option: OptionName,
+    text: Option<&'p str>,
+    (low, high): (u16, u16),
+    usage: &'static str,
+) -> Result<Option<Vec<u16>>, Failure<'p>> {
+    let Some(text) = text else {
+        return Ok(None);
+    };
+    match numbers_in(rt.alloc(), text, low, high) {
+        Ok(numbers) => Ok(Some(numbers)),
+        Err(error) => Err(Failure::of_list(error, option, text, usage)),
+    }
+}
+
+/// The interfaces and the VLAN IDs whose packets are looked at, of a command that is used so.
+fn packet_lists<'p, R: AllocGlobal>(
+    rt: &R,
+    options: PacketOptions<'p>,
+    usage: &'static str,
+) -> Result<PacketLists, Failure<'p>> {
+    let interface = options.interface;
+    let interfaces = numbers_of(rt, OptionName::Interface, interface, (0, 65535), usage)?;
+    let vlans = numbers_of(rt, OptionName::Vlan, options.vlan, (0, 4095), usage)?;
+    let window_ns = window_of(options.dedup, usage)?;
+    Ok(PacketLists {
+        interfaces,
+        vlans,
+        window_ns,
+    })
+}
+
+/// The nanoseconds within which an equal packet is a copy, if they are named, of a command that is used so.
+fn window_of<'p>(text: Option<&'p str>, usage: &'static str) -> Result<Option<u64>, Failure<'p>> {
+    let Some(text) = text else {
+        return Ok(None);
+    };
+    match number_within(text, 1, 60_000) {
+        Some(millis) => Ok(Some(millis.saturating_mul(1_000_000))),
+        None => Err(Failure::BadOption(OptionName::Dedup, text, usage)),
+    }
+}
+
+/// The addresses, the client and the times whose datagrams are asked for.
+fn choice_of<'p, R: AllocGlobal>(
+    rt: &R,
+    options: ChoiceOptions<'p>,
+) -> Result<Choice, Failure<'p>> {
+    let addresses = addresses_of(rt, options.address)?;
+    let client = client_of(options.client)?;
+    let from = time_of(OptionName::From, options.from)?;
+    let until = time_of(OptionName::Until, options.until)?;
+    Ok(Choice {
+        addresses,
+        client,
+        from,
+        until,
+    })
+}
+
+/// The addresses whose datagrams are asked for, if they are named.
+fn addresses_of<'p, R: AllocGlobal>(
+    rt: &R,
+    text: Option<&'p str>,
+) -> Result<Option<Vec<u32>>, Failure<'p>> {
+    let Some(text) = text else {
+        return Ok(None);
+    };
+    match addresses_in(rt.alloc(), text) {
+        Ok(addresses) => Ok(Some(addresses)),
+        Err(error) => Err(Failure::of_list(error, OptionName::Address, text, RECORDING_USAGE)),
+    }
+}
+
+/// The client whose datagrams are asked for, if it is named.
+fn client_of(text: Option<&str>) -> Result<Option<u16>, Failure<'_>> {
+    let Some(text) = text else {
+        return Ok(None);
+    };
+    match client_in(text) {
+        Some(client) => Ok(Some(client)),
+        None => Err(Failure::BadOption(OptionName::Client, text, RECORDING_USAGE)),
+    }
+}
+
+/// The time that an option of `recording` names, if it is given.
+fn time_of(option: OptionName, text: Option<&str>) -> Result<Option<Time>, Failure<'_>> {
+    let Some(text) = text else {
+        return Ok(None);
+    };
+    match time_in(text) {
+        Some(time) => Ok(Some(time)),
+        None => Err(Failure::BadOption(option, text, RECORDING_USAGE)),
     }
 }
 
@@ -284,22 +444,6 @@ fn types_at<'p, R: Files + AllocGlobal>(
     };
     let mut file = open_file(rt, path)?;
     read_types(rt.alloc(), &mut file).map_err(|fault| Failure::of(fault.map(Refusal::Types), path))
-}
-
-/// Shows the recording at a path, or the one that comes on standard input, which is called `-`.
-fn show_recording_at<'p, R: Files + Print + Input + AllocGlobal>(
-    rt: &R,
-    path: &'p str,
-    asked: &Asked<'_>,
-) -> Result<ShownRecording, Failure<'p>> {
-    let mut writer = io::writer(rt);
-    let shown = if path == "-" {
-        show_recording::<IntervalPool, _, _>(rt.alloc(), &mut rt.reader(), asked, &mut writer)
-    } else {
-        let mut file = open_file(rt, path)?;
-        show_recording::<IntervalPool, _, _>(rt.alloc(), &mut file, asked, &mut writer)
-    };
-    shown.map_err(|fault| Failure::of(fault.map(|never| match never {}), path))
 }
 
 fn judge_file<'p, R: Files + Print + AllocGlobal>(
@@ -404,6 +548,23 @@ fn chart_files<'p, R: Files + Print + AllocGlobal>(
 fn setup_at<'p, R: Files + AllocGlobal>(rt: &R, path: &'p str) -> Result<Setup, Failure<'p>> {
     let mut file = open_file(rt, path)?;
     read_setup(rt.alloc(), &mut file).map_err(|fault| Failure::of(fault.map(Refusal::Setup), path))
+}
+
+/// All recordings at these paths, and the one that comes on standard input, which is called `-`.
+fn open_sources<'p, R: Files + Input + AllocGlobal>(
+    rt: &R,
+    paths: &[&'p str],
+) -> Result<Vec<Source<R::File, R::Reader>>, Failure<'p>> {
+    let mut sources = Vec::new(rt.alloc());
+    for path in paths {
+        let source = if *path == "-" {
+            Source::Standard(rt.reader())
+        } else {
+            Source::File(open_file(rt, path)?)
+        };
+        sources.push(source).map_err(|_| Failure::OutOfMemory)?;
+    }
+    Ok(sources)
 }
 
 fn open_file<'p, R: Files>(rt: &R, path: &'p str) -> Result<R::File, Failure<'p>> {

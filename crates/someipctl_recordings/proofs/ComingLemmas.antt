@@ -4,7 +4,7 @@ use Rattle.std.specs.Io.KnownBytes.{Consumes, IsAtEnd}
 use Rattle.std.proofs.lemmas.List.{append-nil}
 use Rattle.recording.specs.declared.Next.TheVariants as next
 use Rattle.recording.specs.declared.stage.Stage.TheVariants.{Head}
-use Rattle.recording.specs.Packets.{RecordValue}
+use Rattle.recording.specs.Captured.{RecordValue}
 use Rattle.recording.specs.Records.{Item}
 use Rattle.recording.specs.HeldItems.{held_of}
 use Rattle.recording.specs.Readers.{ReaderValue, CanFollow, IsNext, IsAfterRead, items_by, to_come}

@@ -3,5 +3,8 @@ pub mod GatheredLemmas
 pub mod SomeRecorded
 pub mod RecordedLemmas
 pub mod ComingLemmas
+pub mod FileLemmas
 pub mod ShowingLemmas
+pub mod ChoiceLemmas
+pub mod ListLemmas
 pub mod about_audit

@@ -1,65 +1,41 @@
--- The records of a recording: what is left out of them, and what is shown of the others.
-use Rattle.std.proofs.Common.{◌≡◌, ℕ, ◌+◌, List, [], ◌∷◌, ◌++◌, None, Some, Ok, Err, refl, sym, subst, ap, ◌∙◌, append_assoc, arith}
-use Rattle.std.specs.Option.{option_to_list}
-use Rattle.std.proofs.lemmas.Grind.{flat_map-append}
+-- What is shown of the datagrams of recordings.
+use Rattle.std.proofs.Common.{◌≡◌, ℕ, List, [], ◌∷◌, ◌++◌, Option, None, Some, Ok, Err, Bool, true, false, refl, sym, subst, ap, ◌∙◌, append_assoc}
+use Rattle.std.specs.Prelude.{filter}
 use Rattle.std.proofs.lemmas.List.{append-nil}
-use Rattle.recording.specs.declared.Skipped.{Skipped}
-use Rattle.recording.specs.declared.Skipped.TheVariants.{LinkType, NotIpv4, Fragment, NotUdp, Cut, BadUdpLength}
-use Rattle.recording.specs.Packets.{DatagramValue, datagram, other}
+use Rattle.std.proofs.lemmas.List.Elements.{filter-append}
+use Rattle.recording.specs.Captured.{RecordValue}
 use Rattle.recording.specs.Records.{Item}
-use Rattle.someipctl_recordings.specs.declared.left_out.LeftOut.{LeftOut}
-use Rattle.someipctl_recordings.specs.LeftOut.{counted, left_out_of, nothing_left_out, plus}
-use Rattle.someipctl_recordings.specs.Asked.{AskedValue, asked_in, asked_of}
+use Rattle.recording_packets.specs.Intake.{ArrivalValue, IntakeValue, after_packets, arrivals, arrived}
+use Rattle.recording_packets.proofs.IntakeLemmas.{arrivals-append}
+use Rattle.someipctl_recordings.specs.Files.{fault_among}
+use Rattle.someipctl_recordings.specs.Wanted.{is_wanted}
+use Rattle.someipctl_recordings.specs.Asked.{AskedValue, asked_from}
 use Rattle.someipctl_recordings.specs.RecordedText.{AreRecorded, IsRecordedText, Progress, after_all, after_datagram}
-use Rattle.someipctl_show.specs.TextKinds.{Joined}
-use Rattle.someipctl_recordings.specs.RecordingResult.{fault_among}
-
--- ---- what is left out
-
-more_first : (a b : ℕ) → (a + b) + 1 ≡ (a + 1) + b
-more_first a b = omega arith
-
-pub counted-plus : (kind : Skipped) (l m : LeftOut) → counted kind (plus l m) ≡ plus (counted kind l) m
-counted-plus LinkType l m = rw (more_first l.link_type m.link_type) refl
-counted-plus NotIpv4 l m = rw (more_first l.not_ipv4 m.not_ipv4) refl
-counted-plus Fragment l m = rw (more_first l.fragmented m.fragmented) refl
-counted-plus NotUdp l m = rw (more_first l.not_udp m.not_udp) refl
-counted-plus Cut l m = rw (more_first l.cut m.cut) refl
-counted-plus BadUdpLength l m = rw (more_first l.bad_udp_length m.bad_udp_length) refl
-
-no_more : (a : ℕ) → a + 0 ≡ a
-no_more a = omega arith
-
-pub plus-nothing : (l : LeftOut) → plus l nothing_left_out ≡ l
-plus-nothing l = rw (no_more l.link_type, no_more l.not_ipv4, no_more l.fragmented, no_more l.not_udp, no_more l.cut, no_more l.bad_udp_length) refl
-
-none_more : (a : ℕ) → 0 + a ≡ a
-none_more a = omega arith
-
-pub plus-none : (m : LeftOut) → plus nothing_left_out m ≡ m
-plus-none m = rw (none_more m.link_type, none_more m.not_ipv4, none_more m.fragmented, none_more m.not_udp, none_more m.cut, none_more m.bad_udp_length) refl
-
-pub left_out-append : (items others : List Item) → left_out_of (items ++ others) ≡ plus (left_out_of items) (left_out_of others)
-left_out-append [] others = sym (plus-none (left_out_of others))
-left_out-append (Ok (datagram d) ∷ items) others = left_out-append items others
-left_out-append (Ok (other kind) ∷ items) others = ap (counted kind) (left_out-append items others) ∙ counted-plus kind (left_out_of items) (left_out_of others)
-left_out-append (Err fault ∷ items) others = left_out-append items others
+use Rattle.someipctl_io.proofs.SendingLemmas.{Sends-nil}
+use Rattle.someipctl_show.specs.TextKinds.{Joined, SendsOne}
 
 -- ---- what is asked for
 
+-- a datagram is asked for
+abbrev wants : AskedValue → ArrivalValue → Bool
+wants asked a = is_wanted asked.wanted a.datagram
+
 -- the datagrams of items and of others
-pub asked-append : (asked : AskedValue) (items others : List Item) → asked_of asked (items ++ others) ≡ asked_of asked items ++ asked_of asked others
-asked-append asked items others = flat_map-append (λ item. option_to_list (asked_in asked item)) items others
+pub asked-append : (asked : AskedValue) (s : IntakeValue) (items others : List Item)
+    → asked_from asked s (items ++ others) ≡ asked_from asked s items ++ asked_from asked (after_packets asked.wanted.packets s items) others
+asked-append asked s items others =
+    ap (filter (wants asked)) (arrivals-append asked.wanted.packets s items others)
+    ∙ filter-append (wants asked) (arrivals asked.wanted.packets s items) (arrivals asked.wanted.packets (after_packets asked.wanted.packets s items) others)
 
 pub fault-append : (items others : List Item) → fault_among items ≡ None → fault_among (items ++ others) ≡ fault_among others
 fault-append [] others none = refl
 fault-append (Ok r ∷ items) others none = fault-append items others none
 fault-append (Err fault ∷ items) others none = absurd cc
 
--- ---- what is shown
+-- ---- their texts
 
 -- a text of datagrams, and of others after them
-pub recorded_join : (asked : AskedValue) (p : Progress) (ds others : List DatagramValue) (text : List ℕ) → Joined (AreRecorded asked p ds) (AreRecorded asked (after_all asked p ds) others) text
+pub recorded_join : (asked : AskedValue) (p : Progress) (ds others : List ArrivalValue) (text : List ℕ) → Joined (AreRecorded asked p ds) (AreRecorded asked (after_all asked p ds) others) text
     → AreRecorded asked p (ds ++ others) text
 recorded_join asked p [] others text both = subst (AreRecorded asked p others) (sym (both.2 ∙ ap (λ (t : List ℕ). t ++ both.1) both.3)) both.4
 recorded_join asked p (d ∷ ds) others text both =
@@ -68,18 +44,37 @@ recorded_join asked p (d ∷ ds) others text both =
       own.1 ++ both.1,
       both.2 ∙ ap (λ (t : List ℕ). t ++ both.1) own.2 ∙ append_assoc own.0 own.1 both.1,
       own.3,
-      recorded_join asked (after_datagram asked p d) ds others (own.1 ++ both.1) (own.1, both.1, refl, own.4, both.4),
+      recorded_join asked (after_datagram asked p d.datagram) ds others (own.1 ++ both.1) (own.1, both.1, refl, own.4, both.4),
     )
 
-pub after-append : (asked : AskedValue) (p : Progress) (ds others : List DatagramValue) → after_all asked p (ds ++ others) ≡ after_all asked (after_all asked p ds) others
+pub after-append : (asked : AskedValue) (p : Progress) (ds others : List ArrivalValue) → after_all asked p (ds ++ others) ≡ after_all asked (after_all asked p ds) others
 after-append asked p [] others = refl
-after-append asked p (d ∷ ds) others = after-append asked (after_datagram asked p d) ds others
+after-append asked p (d ∷ ds) others = after-append asked (after_datagram asked p d.datagram) ds others
 
--- the next record gives a datagram that is asked for
-pub recorded_one : (asked : AskedValue) (p : Progress) (item : Item) (d : DatagramValue) → asked_in asked item ≡ Some d → (text : List ℕ) → IsRecordedText asked p d text
-    → AreRecorded asked p (asked_of asked (item ∷ [])) text
-recorded_one asked p item d is text one =
-    subst (λ o. AreRecorded asked p (option_to_list o ++ []) text) (sym is) (text, [], sym (append-nil text), one, refl)
+-- ---- the next record
 
-pub after_one : (asked : AskedValue) (p : Progress) (item : Item) (d : DatagramValue) → asked_in asked item ≡ Some d → after_all asked p (asked_of asked (item ∷ [])) ≡ after_datagram asked p d
-after_one asked p item d is = ap (λ o. after_all asked p (option_to_list o ++ [])) is
+-- it gives a datagram that is asked for
+pub asked_one : (asked : AskedValue) (s : IntakeValue) (r : RecordValue) (a : ArrivalValue) → arrived asked.wanted.packets s r ≡ Some a → is_wanted asked.wanted a.datagram ≡ true
+    → asked_from asked s (Ok r ∷ []) ≡ a ∷ []
+asked_one asked s r a is wanted = rw (is, wanted) refl
+
+-- one that is not
+pub asked_other : (asked : AskedValue) (s : IntakeValue) (r : RecordValue) (a : ArrivalValue) → arrived asked.wanted.packets s r ≡ Some a → is_wanted asked.wanted a.datagram ≡ false
+    → asked_from asked s (Ok r ∷ []) ≡ []
+asked_other asked s r a is wanted = rw (is, wanted) refl
+
+-- none
+pub asked_none : (asked : AskedValue) (s : IntakeValue) (r : RecordValue) → arrived asked.wanted.packets s r ≡ None → asked_from asked s (Ok r ∷ []) ≡ []
+asked_none asked s r is = rw is refl
+
+pub recorded_one : (asked : AskedValue) (p : Progress) (ds : List ArrivalValue) (a : ArrivalValue) → ds ≡ a ∷ [] → (text : List ℕ) → IsRecordedText asked p a text → AreRecorded asked p ds text
+recorded_one asked p ds a is text one = subst (λ (l : List ArrivalValue). AreRecorded asked p l text) (sym is) (text, [], sym (append-nil text), one, refl)
+
+pub after_one : (asked : AskedValue) (p : Progress) (ds : List ArrivalValue) (a : ArrivalValue) → ds ≡ a ∷ [] → after_all asked p ds ≡ after_datagram asked p a.datagram
+after_one asked p ds a is = ap (after_all asked p) is
+
+pub recorded_none : (asked : AskedValue) (p : Progress) (ds : List ArrivalValue) → ds ≡ [] → (a : Option (List ℕ)) (held : List ℕ) → SendsOne (AreRecorded asked p ds) a held a held
+recorded_none asked p ds none a held = ([], subst (λ (l : List ArrivalValue). AreRecorded asked p l []) (sym none) refl, Sends-nil a held)
+
+pub after_none : (asked : AskedValue) (p : Progress) (ds : List ArrivalValue) → ds ≡ [] → p ≡ after_all asked p ds
+after_none asked p ds none = sym (ap (after_all asked p) none)

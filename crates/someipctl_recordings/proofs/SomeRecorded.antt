@@ -1,6 +1,7 @@
 -- What is printed of a recording has a text.
-use Rattle.std.proofs.Common.{◌≡◌, Bool, ℕ, ◌+◌, List, [], ◌∷◌, ◌++◌, Option, Some, None, Result, Ok, Err, refl}
-use Rattle.recording.specs.Packets.{DatagramValue}
+use Rattle.std.proofs.Common.{ℕ, ◌+◌, List, [], ◌∷◌, ◌++◌, Option, Some, None, Result, Ok, Err, refl}
+use Rattle.recording_packets.specs.Intake.{ArrivalValue}
+use Rattle.someipctl_recordings.specs.declared.asked.Heads.{Heads}
 use Rattle.someip_wire.specs.declared.WireError.{WireError}
 use Rattle.someip_wire.specs.Spelling.{MessageValue}
 use Rattle.someip_wire.specs.Reading.{items_of}
@@ -41,15 +42,15 @@ some_lines_of c store (b ∷ bytes) = some_lines_with c store 0 (items_of (b ∷
 pub some_scene : (c : Scene) (store : Option StoreValue) → (text : List ℕ) × IsSceneText c store text
 some_scene c store = some_lines_of c store c.datagram.payload
 
-pub some_headed : (endpoints : Bool) (d : DatagramValue) (Kind : List ℕ → Type 0) → ((text : List ℕ) × Kind text) → (text : List ℕ) × Headed endpoints d Kind text
-some_headed endpoints d Kind some = (headed_text endpoints d some.0, (some.0, some.1, refl))
+pub some_headed : (heads : Heads) (a : ArrivalValue) (Kind : List ℕ → Type 0) → ((text : List ℕ) × Kind text) → (text : List ℕ) × Headed heads a Kind text
+some_headed heads a Kind some = (headed_text heads a some.0, (some.0, some.1, refl))
 
-some_recorded_text : (asked : AskedValue) (p : Progress) (d : DatagramValue) → (text : List ℕ) × IsRecordedText asked p d text
-some_recorded_text asked p d = some_headed asked.endpoints d (IsSceneText (scene_of asked p d) p.store) (some_scene (scene_of asked p d) p.store)
+some_recorded_text : (asked : AskedValue) (p : Progress) (a : ArrivalValue) → (text : List ℕ) × IsRecordedText asked p a text
+some_recorded_text asked p a = some_headed asked.heads a (IsSceneText (scene_of asked p a.datagram) p.store) (some_scene (scene_of asked p a.datagram) p.store)
 
-pub some_recorded : (asked : AskedValue) (p : Progress) (ds : List DatagramValue) → (text : List ℕ) × AreRecorded asked p ds text
+pub some_recorded : (asked : AskedValue) (p : Progress) (ds : List ArrivalValue) → (text : List ℕ) × AreRecorded asked p ds text
 some_recorded asked p [] = ([], refl)
-some_recorded asked p (d ∷ ds) =
-    let own = some_recorded_text asked p d in
-    let others = some_recorded asked (after_datagram asked p d) ds in
+some_recorded asked p (a ∷ ds) =
+    let own = some_recorded_text asked p a in
+    let others = some_recorded asked (after_datagram asked p a.datagram) ds in
     (own.0 ++ others.0, (own.0, others.0, refl, own.1, others.1))

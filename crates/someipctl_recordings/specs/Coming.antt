@@ -1,7 +1,7 @@
 -- What comes of a recording that is read as it is shown.
 use Rattle.std.specs.Prelude.{◌≡◌, ◌⊎◌, ⊤, ℕ, ◌^◌, ◌<◌, true, false, List, [], ◌∷◌, ◌++◌, Option, Some, None, Ok, Err}
 use Rattle.std.specs.Io.KnownBytes.{Consumes, IsAtEnd}
-use Rattle.recording.specs.Packets.{RecordValue}
+use Rattle.recording.specs.Captured.{RecordValue}
 use Rattle.recording.specs.Records.{Item}
 use Rattle.recording.specs.Held.{LacksBytes}
 use Rattle.recording.specs.Readers.{ReaderValue, CanFollow, LacksMemory, to_come, wanted_by}

@@ -1,9 +1,11 @@
-pub mod LeftOut
-pub mod Ports
+pub mod Lists
+pub mod Choice
 pub mod WholeLimits
 pub mod Heads
 pub mod Moments
 pub mod Gathered
+pub mod Files
+pub mod Wanted
 pub mod Asked
 pub mod RecordedText
 pub mod Scenes

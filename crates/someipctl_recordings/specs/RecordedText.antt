@@ -5,7 +5,8 @@ use Rattle.std.specs.FinMap.{empty}
 use Rattle.std.specs.Net.Text.{ipv4_text}
 use Rattle.recording.specs.declared.Time.{Time}
 use Rattle.recording.specs.declared.Endpoint.{Endpoint}
-use Rattle.recording.specs.Packets.{DatagramValue, datagram}
+use Rattle.recording.specs.Packets.{DatagramValue}
+use Rattle.recording_packets.specs.Intake.{ArrivalValue}
 use Rattle.someip_wire.specs.declared.WireError.{WireError}
 use Rattle.someip_wire.specs.Spelling.{MessageValue}
 use Rattle.someip_wire.specs.Reading.{items_of}
@@ -21,6 +22,7 @@ use Rattle.someipctl_show.specs.ShownText.{IsItemText, shows_fault}
 use Rattle.someipctl_show.specs.TextKinds.{Joined}
 use Rattle.someipctl_recordings.specs.Moments.{moment_of}
 use Rattle.someipctl_recordings.specs.Gathered.{StoreValue, told_of, store_after}
+use Rattle.someipctl_recordings.specs.declared.asked.Heads.{Heads}
 use Rattle.someipctl_recordings.specs.Asked.{AskedValue}
 
 -- ---- what stands before a line
@@ -40,6 +42,23 @@ endpoint_text e = ipv4_text e.ip ++ codes ":" ++ decimal e.port
 -- the time of a datagram, where it came from and where it went to, and a space after each
 abbrev pub head_text : DatagramValue → List ℕ
 head_text d = time_text d.time ++ (spaced (endpoint_text d.from ∷ endpoint_text d.to ∷ []) ++ codes " ")
+
+-- the number of a packet, and a space after it
+abbrev pub frame_text : ℕ → List ℕ
+frame_text n = codes "#" ++ decimal n ++ codes " "
+
+-- a text where it is asked for
+abbrev pub text_if : Bool → List ℕ → List ℕ
+text_if true text = text
+text_if false text = []
+
+-- nothing
+abbrev pub no_heads : Heads
+no_heads = record { frame = false; endpoints = false }
+
+-- what stands before each line of a datagram
+abbrev pub line_head : Heads → ArrivalValue → List ℕ
+line_head heads a = text_if heads.frame (frame_text a.frame) ++ text_if heads.endpoints (head_text a.datagram)
 
 -- the text with a head before each of its lines, which end at a line feed; whether one begins here
 abbrev pub with_heads : List ℕ → Bool → List ℕ → List ℕ
@@ -112,18 +131,17 @@ pub record Progress : Type 0 where
 abbrev pub scene_of : AskedValue → Progress → DatagramValue → Scene
 scene_of asked p d = record { types = asked.types; k = p.datagrams + 1; now = moment_of p.now d.time; datagram = d }
 
--- a text, with the head of the datagram before each of its lines where endpoints are asked for
-abbrev pub headed_text : Bool → DatagramValue → List ℕ → List ℕ
-headed_text false d text = text
-headed_text true d text = with_heads (head_text d) true text
+-- a text, with what stands before each of its lines
+abbrev pub headed_text : Heads → ArrivalValue → List ℕ → List ℕ
+headed_text heads a text = if heads.frame || heads.endpoints then with_heads (line_head heads a) true text else text
 
 -- the same of one of some texts
-abbrev pub Headed : Bool → DatagramValue → (List ℕ → Type 0) → List ℕ → Type 0
-Headed endpoints d Kind text = (lines : List ℕ) × Kind lines × (text ≡ headed_text endpoints d lines)
+abbrev pub Headed : Heads → ArrivalValue → (List ℕ → Type 0) → List ℕ → Type 0
+Headed heads a Kind text = (lines : List ℕ) × Kind lines × (text ≡ headed_text heads a lines)
 
 -- a text of the next datagram
-abbrev pub IsRecordedText : AskedValue → Progress → DatagramValue → List ℕ → Type 0
-IsRecordedText asked p d text = Headed asked.endpoints d (IsSceneText (scene_of asked p d) p.store) text
+abbrev pub IsRecordedText : AskedValue → Progress → ArrivalValue → List ℕ → Type 0
+IsRecordedText asked p a text = Headed asked.heads a (IsSceneText (scene_of asked p a.datagram) p.store) text
 
 abbrev pub after_datagram : AskedValue → Progress → DatagramValue → Progress
 after_datagram asked p d = record {
@@ -134,13 +152,13 @@ after_datagram asked p d = record {
 }
 
 -- texts of the next datagrams, in order
-abbrev pub AreRecorded : AskedValue → Progress → List DatagramValue → List ℕ → Type 0
+abbrev pub AreRecorded : AskedValue → Progress → List ArrivalValue → List ℕ → Type 0
 AreRecorded asked p [] text = text ≡ []
-AreRecorded asked p (d ∷ others) text = Joined (IsRecordedText asked p d) (AreRecorded asked (after_datagram asked p d) others) text
+AreRecorded asked p (a ∷ others) text = Joined (IsRecordedText asked p a) (AreRecorded asked (after_datagram asked p a.datagram) others) text
 
-abbrev pub after_all : AskedValue → Progress → List DatagramValue → Progress
+abbrev pub after_all : AskedValue → Progress → List ArrivalValue → Progress
 after_all asked p [] = p
-after_all asked p (d ∷ others) = after_all asked (after_datagram asked p d) others
+after_all asked p (a ∷ others) = after_all asked (after_datagram asked p a.datagram) others
 
 -- before the first datagram nothing has come in part
 abbrev pub empty_store : Limits → StoreValue

@@ -1,97 +1,90 @@
--- What `recording` does with a recording.
-use Rattle.std.specs.Prelude.{ℕ, ◌≡◌, Bool, false, List, [], ◌∷◌, ◌++◌, Option, Some, None, option_map, Ok, Err}
-use Rattle.std.specs.Borrow.{Bor}
+-- What `recording` does with files.
+use Rattle.std.specs.Prelude.{ℕ, ◌≡◌, Bool, false, List, [], ◌++◌, Option, option_map}
 use Rattle.std.specs.Io.KnownBytes.{Appends}
-use Rattle.recording.specs.declared.RecordingError.{RecordingError}
-use Rattle.recording.specs.Records.{Item}
-use Rattle.recording.specs.HeldItems.{held_of}
+use Rattle.recording_packets.specs.declared.LeftOut.{LeftOut}
+use Rattle.recording_packets.specs.Intake.{after_packets, left_out_at, nothing_taken}
 use Rattle.someip_reassembly.specs.Parts.{Limits}
-use Rattle.someipctl_show.specs.ShowResult.{view_services}
 use Rattle.someipctl_recordings.specs.declared.asked.Asked.{Asked}
 use Rattle.someipctl_recordings.specs.declared.asked.WholeLimits.{WholeLimits}
+use Rattle.someipctl_recordings.specs.declared.recordings.FileFault.{FileFault}
 use Rattle.someipctl_recordings.specs.declared.recordings.Shown.{Shown}
 use Rattle.someipctl_recordings.specs.declared.recordings.ShownRecording.{ShownRecording}
-use Rattle.someipctl_io.specs.Inputs.{WasLeft}
 use Rattle.someipctl_io.specs.Outcomes.{fault_outcome}
-use Rattle.someipctl_recordings.specs.LeftOut.{left_out_of, nothing_left_out}
+use Rattle.someipctl_recordings.specs.Files.{WereLeft, fault_in, items_of_files}
 use Rattle.someipctl_recordings.specs.Gathered.{StoreValue}
-use Rattle.someipctl_recordings.specs.Asked.{AskedValue, asked_of}
+use Rattle.someipctl_recordings.specs.Wanted.{view_wanted}
+use Rattle.someipctl_recordings.specs.Asked.{AskedValue, asked_from}
 use Rattle.someipctl_recordings.specs.RecordedText.{AreRecorded, Progress, after_all, at_first}
 use Rattle.someipctl_show.specs.TextKinds.{SendsOne}
 
 -- ---- what is asked for
-
--- the ports behind a reference
-abbrev pub view_ports : Option (Bor (List ℕ)) → Option (List ℕ)
-view_ports ports = option_map (λ p. p.now) ports
 
 abbrev pub view_limits : WholeLimits → Limits
 view_limits l = record { slots = l.slots; limit = l.limit; timeout = l.timeout_ms }
 
 abbrev pub view_asked : Asked → AskedValue
 view_asked asked = record {
-  ports = view_ports asked.ports;
-  services = view_services asked.services;
+  wanted = view_wanted asked.wanted;
   types = asked.types.now;
-  endpoints = asked.endpoints;
+  heads = asked.heads;
   whole = option_map view_limits asked.whole;
 }
 
--- ---- the recording
+-- ---- the files
 
--- the fault among records
-abbrev pub fault_among : List Item → Option RecordingError
-fault_among [] = None
-fault_among (Ok r ∷ items) = fault_among items
-fault_among (Err fault ∷ items) = Some fault
-
--- a text of what is asked of a recording, up to the fault that ends it, if one does
-abbrev pub IsRecordingText : AskedValue → List ℕ → List ℕ → Type 0
-IsRecordingText asked file text = AreRecorded asked (at_first asked) (asked_of asked (held_of file)) text
+-- a text of what is asked of the files, up to the fault that ends them, if one does
+abbrev pub IsRecordingText : AskedValue → List (List ℕ) → List ℕ → Type 0
+IsRecordingText asked files text = AreRecorded asked (at_first asked) (asked_from asked (nothing_taken asked.wanted.packets) (items_of_files files)) text
 
 -- a fault was shown of a message that is asked for
-abbrev pub is_faulty_of : AskedValue → List ℕ → Bool
-is_faulty_of asked file = (after_all asked (at_first asked) (asked_of asked (held_of file))).is_faulty
+abbrev pub is_faulty_of : AskedValue → List (List ℕ) → Bool
+is_faulty_of asked files = (after_all asked (at_first asked) (asked_from asked (nothing_taken asked.wanted.packets) (items_of_files files))).is_faulty
 
--- a text of what is asked of a recording was written, up to its fault, and what is told of the recording is so
-pub record ShowsRecording (input : Option (List ℕ)) (asked : AskedValue) (shown : ShownRecording) (before after : Option (List ℕ)) : Type 0 where
-  pub file : List ℕ
-  pub left : WasLeft input file
-  pub ends : shown.fault ≡ fault_among (held_of file)
+-- how many packets of the files give no datagram, of those that are looked at
+abbrev pub left_out_of : AskedValue → List (List ℕ) → LeftOut
+left_out_of asked files = left_out_at (after_packets asked.wanted.packets (nothing_taken asked.wanted.packets) (items_of_files files))
+
+-- a text of what is asked of the files was written, up to their fault, and what is told of them is so
+pub record ShowsRecording (inputs : List (Option (List ℕ))) (asked : AskedValue) (shown : ShownRecording) (before after : Option (List ℕ)) : Type 0 where
+  pub files : List (List ℕ)
+  pub left : WereLeft inputs files
+  pub ends : shown.fault ≡ fault_in files
   pub text : List ℕ
-  pub shows : IsRecordingText asked file text
+  pub shows : IsRecordingText asked files text
   pub wrote : Appends before after text
-  pub tells : shown.outcome ≡ fault_outcome (is_faulty_of asked file)
-  pub counts : shown.left_out ≡ left_out_of (held_of file)
+  pub tells : shown.outcome ≡ fault_outcome (is_faulty_of asked files)
+  pub counts : shown.left_out ≡ left_out_of asked files
 
 -- a beginning of such a text was written, which may be nothing
-pub record BeginsRecording (input : Option (List ℕ)) (asked : AskedValue) (before after : Option (List ℕ)) : Type 0 where
-  pub file : List ℕ
-  pub left : WasLeft input file
+pub record BeginsRecording (inputs : List (Option (List ℕ))) (asked : AskedValue) (before after : Option (List ℕ)) : Type 0 where
+  pub files : List (List ℕ)
+  pub left : WereLeft inputs files
   pub sent : List ℕ
   pub unsent : List ℕ
   pub wrote : Appends before after sent
-  pub shows : IsRecordingText asked file (sent ++ unsent)
+  pub shows : IsRecordingText asked files (sent ++ unsent)
 
 -- ---- the same through a buffer
 
 -- such a text was printed, of which a part may wait in the buffer
-pub record PutsRecording (input : Option (List ℕ)) (asked : AskedValue) (shown : ShownRecording) (before after : Option (List ℕ)) (waits : List ℕ) : Type 0 where
-  pub file : List ℕ
-  pub left : WasLeft input file
-  pub ends : shown.fault ≡ fault_among (held_of file)
-  pub sends : SendsOne (IsRecordingText asked file) before [] after waits
-  pub tells : shown.outcome ≡ fault_outcome (is_faulty_of asked file)
-  pub counts : shown.left_out ≡ left_out_of (held_of file)
+pub record PutsRecording (inputs : List (Option (List ℕ))) (asked : AskedValue) (shown : ShownRecording) (before after : Option (List ℕ)) (waits : List ℕ) : Type 0 where
+  pub files : List (List ℕ)
+  pub left : WereLeft inputs files
+  pub ends : shown.fault ≡ fault_in files
+  pub sends : SendsOne (IsRecordingText asked files) before [] after waits
+  pub tells : shown.outcome ≡ fault_outcome (is_faulty_of asked files)
+  pub counts : shown.left_out ≡ left_out_of asked files
+
+-- ---- how far the files are shown
 
 -- how far what was shown is, where the store is this one
 abbrev pub progress_of : Shown → Option StoreValue → Progress
 progress_of s store = record { datagrams = s.datagrams; now = s.now; store = store; is_faulty = s.is_faulty }
 
--- before the first record
+-- before the first file
 abbrev pub nothing_shown : Shown
-nothing_shown = record { datagrams = 0; now = 0; is_faulty = false; left_out = nothing_left_out }
+nothing_shown = record { datagrams = 0; now = 0; is_faulty = false }
 
 -- what is told at the end, or at the fault
-abbrev pub shown_recording : Shown → Option RecordingError → ShownRecording
-shown_recording s fault = record { outcome = fault_outcome s.is_faulty; left_out = s.left_out; fault = fault }
+abbrev pub shown_recording : Shown → LeftOut → Option FileFault → ShownRecording
+shown_recording s left_out fault = record { outcome = fault_outcome s.is_faulty; left_out = left_out; fault = fault }

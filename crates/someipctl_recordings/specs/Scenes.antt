@@ -5,4 +5,4 @@ use Rattle.someipctl_recordings.specs.declared.datagrams.Numbered.{Numbered}
 use Rattle.someipctl_recordings.specs.RecordedText.{Scene}
 
 abbrev pub scene_by : TypesValue → Numbered → Scene
-scene_by types n = record { types = types; k = n.k; now = n.now; datagram = view_datagram n.datagram }
+scene_by types n = record { types = types; k = n.k; now = n.now; datagram = view_datagram n.arrival.datagram }

@@ -1,21 +1,28 @@
-//! What of a recording is asked for.
+//! What of recordings is asked for, and what is told of it.
 
-use someipctl_show::services::AskedService;
+use crate::wanted::Wanted;
 use someipctl_show::types::MessageTypes;
 
-/// What of a recording is asked for, and what is told of it.
+/// What of recordings is asked for, and what is told of it.
 #[derive(Clone, Copy)]
 pub struct Asked<'a> {
-    /// Only datagrams from or to one of these ports. None asks for all.
-    pub ports: Option<&'a [u16]>,
-    /// Only datagrams with a message of one of these services. None asks for all.
-    pub services: Option<&'a [AskedService]>,
+    /// Which datagrams are asked for.
+    pub wanted: Wanted<'a>,
     /// What payloads are read by, to tell their values.
     pub types: &'a MessageTypes,
-    /// Whether time and endpoints stand before each line.
-    pub endpoints: bool,
+    /// What stands before each line.
+    pub heads: Heads,
     /// What bounds the messages that are put together from their segments. None puts none together.
     pub whole: Option<WholeLimits>,
+}
+
+/// What stands before each line of a datagram.
+#[derive(Clone, Copy, PartialEq, Eq)]
+pub struct Heads {
+    /// Whether the number of its packet does, as in `#12`.
+    pub frame: bool,
+    /// Whether its time and its endpoints do.
+    pub endpoints: bool,
 }
 
 /// What bounds the messages that are put together from their segments.

@@ -1,6 +1,7 @@
 //! The lines of a datagram of a recording.
 ghost use Rattle.std.specs.Prelude.{◌≡◌, ◌+◌, ◌≤◌, [], Some, Ok, length, IfOk, OnErr, OnOk};
 ghost use Rattle.recording.specs.View.{view_datagram};
+ghost use Rattle.recording_packets.specs.View.{view_arrival};
 ghost use Rattle.someip_wire.specs.Reading.{items_of};
 ghost use Rattle.someip_wire.specs.View.{view, view_item};
 ghost use Rattle.someipctl_show.specs.TextKinds.{SendsOne, StopsOne};
@@ -10,9 +11,10 @@ ghost use Rattle.someipctl_recordings.specs.RecordedText.{AreItemLines, AreLines
 ghost use Rattle.someipctl_recordings.specs.RecordedText.{gathers_fault, has_fault_with, records_fault, store_after_all};
 ghost use Rattle.someipctl_recordings.specs.Scenes.{scene_by};
 
+use crate::asked::Heads;
 use crate::heads::put_with_heads;
 use crate::reassembly::{Told, tell_item};
-use recording::Datagram;
+use recording_packets::Arrival;
 use someip_reassembly::Reassembly;
 use someip_wire::{Message, Messages, WireError};
 use someipctl_io::{
@@ -42,43 +44,44 @@ pub(crate) struct Numbered<'d> {
     pub(crate) k: usize,
     /// Its moment, in milliseconds.
     pub(crate) now: u64,
-    pub(crate) datagram: Datagram<'d>,
+    /// The datagram, with the number of its packet.
+    pub(crate) arrival: Arrival<'d>,
 }
 
-/// Prints the text of a datagram, with its time and endpoints before each line where they are asked for,
-/// and says whether a fault is in it. `lines` is a buffer for lines that get them.
+/// Prints the text of a datagram, with what is asked for before each line, and says whether a fault is in
+/// it. `lines` is a buffer for lines that get something.
 pub(crate) fn put_recorded<S: Reassembly + Drop, W: Write>(
     buffer: &mut Buffer,
     writer: &mut W,
     shown: &Numbered<'_>,
-    endpoints: bool,
+    heads: Heads,
     lines: &mut Buffer,
     telling: &mut Telling<'_, S>,
 ) -> Result<bool, PrintFault>
     requires empty { lines.old ≡ [] }
     requires in_time { IsInTime S.parts shown.now.now telling.old.store }
     ensures empty { OnOk result (lines.new ≡ []) }
-    ensures ok { OnOk result (SendsOne (Headed endpoints (view_datagram shown.entry.now.datagram) (IsSceneText
+    ensures ok { OnOk result (SendsOne (Headed heads (view_arrival shown.entry.now.arrival) (IsSceneText
         (scene_by telling.old.values.types.now shown.entry.now) (view_store S.limits S.parts telling.old.store)))
         (W.contents writer.old) buffer.old (W.contents writer.new) buffer.new) }
     ensures faulty { IfOk result (λ faulty. faulty ≡ has_fault_with
         (scene_by telling.old.values.types.now shown.entry.now) (view_store S.limits S.parts telling.old.store)
-        (items_of shown.entry.now.datagram.payload.now)) }
+        (items_of shown.entry.now.arrival.datagram.payload.now)) }
     ensures store { OnOk result (view_store S.limits S.parts telling.new.store ≡ store_after_all
-        (view_store S.limits S.parts telling.old.store) shown.entry.now.now (view_datagram shown.entry.now.datagram)
-        (items_of shown.entry.now.datagram.payload.now)) }
+        (view_store S.limits S.parts telling.old.store) shown.entry.now.now (view_datagram shown.entry.now.arrival.datagram)
+        (items_of shown.entry.now.arrival.datagram.payload.now)) }
     ensures in_time { IsInTime S.parts shown.entry.now.now telling.new.store }
-    ensures err { OnErr result (StopsOne (Headed endpoints (view_datagram shown.entry.now.datagram) (IsSceneText
+    ensures err { OnErr result (StopsOne (Headed heads (view_arrival shown.entry.now.arrival) (IsSceneText
         (scene_by telling.old.values.types.now shown.entry.now) (view_store S.limits S.parts telling.old.store)))
         (W.contents writer.old) buffer.old (W.contents writer.new)) }
     ensures types { telling.new.values.types.now ≡ telling.old.values.types.now }
 {
-    if !endpoints {
+    if !heads.frame && !heads.endpoints {
         return put_datagram(buffer, writer, shown, telling);
     }
     let mut text = Vec::new(telling.alloc);
     let faulty = print_to(lines, &mut text, shown, telling)?;
-    put_with_heads(buffer, writer, &shown.datagram, &text)?;
+    put_with_heads(buffer, writer, heads, &shown.arrival, &text)?;
     Ok(faulty)
 }
 
@@ -97,10 +100,10 @@ fn print_to<S: Reassembly + Drop>(
         (view_store S.limits S.parts telling.old.store) text.new.items) }
     ensures faulty { IfOk result (λ faulty. faulty ≡ has_fault_with
         (scene_by telling.old.values.types.now shown.entry.now) (view_store S.limits S.parts telling.old.store)
-        (items_of shown.entry.now.datagram.payload.now)) }
+        (items_of shown.entry.now.arrival.datagram.payload.now)) }
     ensures store { OnOk result (view_store S.limits S.parts telling.new.store ≡ store_after_all
-        (view_store S.limits S.parts telling.old.store) shown.entry.now.now (view_datagram shown.entry.now.datagram)
-        (items_of shown.entry.now.datagram.payload.now)) }
+        (view_store S.limits S.parts telling.old.store) shown.entry.now.now (view_datagram shown.entry.now.arrival.datagram)
+        (items_of shown.entry.now.arrival.datagram.payload.now)) }
     ensures in_time { IsInTime S.parts shown.entry.now.now telling.new.store }
     ensures types { telling.new.values.types.now ≡ telling.old.values.types.now }
 {
@@ -122,17 +125,17 @@ fn put_datagram<S: Reassembly + Drop, W: Write>(
         (W.contents writer.old) buffer.old (W.contents writer.new) buffer.new) }
     ensures faulty { IfOk result (λ faulty. faulty ≡ has_fault_with
         (scene_by telling.old.values.types.now shown.entry.now) (view_store S.limits S.parts telling.old.store)
-        (items_of shown.entry.now.datagram.payload.now)) }
+        (items_of shown.entry.now.arrival.datagram.payload.now)) }
     ensures store { OnOk result (view_store S.limits S.parts telling.new.store ≡ store_after_all
-        (view_store S.limits S.parts telling.old.store) shown.entry.now.now (view_datagram shown.entry.now.datagram)
-        (items_of shown.entry.now.datagram.payload.now)) }
+        (view_store S.limits S.parts telling.old.store) shown.entry.now.now (view_datagram shown.entry.now.arrival.datagram)
+        (items_of shown.entry.now.arrival.datagram.payload.now)) }
     ensures in_time { IsInTime S.parts shown.entry.now.now telling.new.store }
     ensures err { OnErr result (StopsOne (IsSceneText (scene_by telling.old.values.types.now shown.entry.now)
         (view_store S.limits S.parts telling.old.store))
         (W.contents writer.old) buffer.old (W.contents writer.new)) }
     ensures types { telling.new.values.types.now ≡ telling.old.values.types.now }
 {
-    if shown.datagram.payload.is_empty() {
+    if shown.arrival.datagram.payload.is_empty() {
         put_empty(buffer, writer, shown.k)?;
         return Ok(false);
     }
@@ -148,23 +151,23 @@ fn put_items<S: Reassembly + Drop, W: Write>(
 ) -> Result<bool, PrintFault>
     requires in_time { IsInTime S.parts shown.now.now telling.old.store }
     ensures ok { OnOk result (SendsOne (AreLinesWith (scene_by telling.old.values.types.now shown.entry.now)
-        (view_store S.limits S.parts telling.old.store) 0 (items_of shown.entry.now.datagram.payload.now))
+        (view_store S.limits S.parts telling.old.store) 0 (items_of shown.entry.now.arrival.datagram.payload.now))
         (W.contents writer.old) buffer.old (W.contents writer.new) buffer.new) }
     ensures faulty { IfOk result (λ faulty. faulty ≡ has_fault_with
         (scene_by telling.old.values.types.now shown.entry.now) (view_store S.limits S.parts telling.old.store)
-        (items_of shown.entry.now.datagram.payload.now)) }
+        (items_of shown.entry.now.arrival.datagram.payload.now)) }
     ensures store { OnOk result (view_store S.limits S.parts telling.new.store ≡ store_after_all
-        (view_store S.limits S.parts telling.old.store) shown.entry.now.now (view_datagram shown.entry.now.datagram)
-        (items_of shown.entry.now.datagram.payload.now)) }
+        (view_store S.limits S.parts telling.old.store) shown.entry.now.now (view_datagram shown.entry.now.arrival.datagram)
+        (items_of shown.entry.now.arrival.datagram.payload.now)) }
     ensures in_time { IsInTime S.parts shown.entry.now.now telling.new.store }
     ensures err { OnErr result (StopsOne (AreLinesWith (scene_by telling.old.values.types.now shown.entry.now)
-        (view_store S.limits S.parts telling.old.store) 0 (items_of shown.entry.now.datagram.payload.now))
+        (view_store S.limits S.parts telling.old.store) 0 (items_of shown.entry.now.arrival.datagram.payload.now))
         (W.contents writer.old) buffer.old (W.contents writer.new)) }
     ensures types { telling.new.values.types.now ≡ telling.old.values.types.now }
 {
     let mut faulty = false;
     let mut place = 0;
-    for item in Messages::new(shown.datagram.payload) {
+    for item in Messages::new(shown.arrival.datagram.payload) {
         faulty |= put_recorded_item(buffer, writer, shown, place, &item, telling)?;
         place += item_len(&item);
     }
@@ -190,7 +193,7 @@ fn put_recorded_item<S: Reassembly + Drop, W: Write>(
         (scene_by telling.old.values.types.now shown.entry.now) (view_store S.limits S.parts telling.old.store)
         (view_item item.now)) }
     ensures store { OnOk result (view_store S.limits S.parts telling.new.store ≡ store_after
-        (view_store S.limits S.parts telling.old.store) shown.entry.now.now (view_datagram shown.entry.now.datagram)
+        (view_store S.limits S.parts telling.old.store) shown.entry.now.now (view_datagram shown.entry.now.arrival.datagram)
         (view_item item.now)) }
     ensures in_time { IsInTime S.parts shown.entry.now.now telling.new.store }
     ensures err { OnErr result (StopsOne (AreItemLines (scene_by telling.old.values.types.now shown.entry.now)
@@ -202,7 +205,7 @@ fn put_recorded_item<S: Reassembly + Drop, W: Write>(
     let told = tell_item(
         &mut telling.store,
         shown.now,
-        &shown.datagram,
+        &shown.arrival.datagram,
         item,
         &mut telling.bytes,
     )?;

@@ -1,41 +1,101 @@
-//! Lines with the time and the endpoints of their datagram before each.
+//! Lines with the number of their packet, or the time and the endpoints of their datagram, before each.
 //!
 //! The head of a line is put before the lines of `show` and not into them, so that what is printed is
-//! defined by what `show` prints, and other programs can cut it off: it is the first three words.
+//! defined by what `show` prints, and other programs can cut it off: it is the first words.
 ghost use Rattle.std.specs.Prelude.{◌≡◌, ◌∷◌, [], OnOk, OnErr, drop, map, true};
 ghost use Rattle.recording.specs.View.{view_datagram};
+ghost use Rattle.recording_packets.specs.View.{view_arrival};
 ghost use Rattle.someipctl_io.specs.Sending.{Sends, Stops};
-ghost use Rattle.someipctl_recordings.specs.RecordedText.{endpoint_text, head_text, nine_digits, time_text};
-ghost use Rattle.someipctl_recordings.specs.RecordedText.{with_heads};
+ghost use Rattle.someipctl_recordings.specs.RecordedText.{endpoint_text, frame_text, head_text, line_head, nine_digits};
+ghost use Rattle.someipctl_recordings.specs.RecordedText.{text_if, time_text, with_heads};
 ghost use Rattle.someipctl_recordings.specs.Heads.{line_len};
 ghost use Rattle.someip_texts.specs.Words.{word_text};
 ghost use Rattle.std.specs.Net.Text.{socket_v4_text};
 
+use crate::asked::Heads;
 use recording::{Datagram, Endpoint, Time};
+use recording_packets::Arrival;
 use someipctl_io::{Buffer, CannotWrite, Part, Word, put_parts, put_words};
 use std::io::Write;
 use std::net::{Ipv4Addr, SocketAddrV4};
 
-/// Prints the text of a datagram with the datagram's time and endpoints before each line.
+/// Prints the text of a datagram with what is asked for before each line.
 pub(crate) fn put_with_heads<W: Write>(
     buffer: &mut Buffer,
     writer: &mut W,
-    datagram: &Datagram<'_>,
+    heads: Heads,
+    arrival: &Arrival<'_>,
     text: &[u8],
 ) -> Result<(), CannotWrite>
     ensures ok { OnOk result (Sends (W.contents writer.old) buffer.old (W.contents writer.new)
-        buffer.new (with_heads (head_text (view_datagram datagram.now)) true text.now)) }
+        buffer.new (with_heads (line_head heads (view_arrival arrival.now)) true text.now)) }
     ensures err { OnErr result (Stops (W.contents writer.old) buffer.old (W.contents writer.new)
-        (with_heads (head_text (view_datagram datagram.now)) true text.now)) }
+        (with_heads (line_head heads (view_arrival arrival.now)) true text.now)) }
 {
     let mut rest = text;
     while !rest.is_empty() {
         let (line, others) = rest.split_at(line_len(rest));
-        put_head(buffer, writer, datagram)?;
+        put_line_head(buffer, writer, heads, arrival)?;
         buffer.put(writer, line)?;
         rest = others;
     }
     Ok(())
+}
+
+/// Prints what is asked for before a line.
+fn put_line_head<W: Write>(
+    buffer: &mut Buffer,
+    writer: &mut W,
+    heads: Heads,
+    arrival: &Arrival<'_>,
+) -> Result<(), CannotWrite>
+    ensures ok { OnOk result (Sends (W.contents writer.old) buffer.old (W.contents writer.new)
+        buffer.new (line_head heads (view_arrival arrival.now))) }
+    ensures err { OnErr result (Stops (W.contents writer.old) buffer.old (W.contents writer.new)
+        (line_head heads (view_arrival arrival.now))) }
+{
+    put_frame(buffer, writer, heads.frame, arrival.frame)?;
+    put_endpoints(buffer, writer, heads.endpoints, &arrival.datagram)
+}
+
+/// Prints the number of a packet, where it is asked for.
+fn put_frame<W: Write>(
+    buffer: &mut Buffer,
+    writer: &mut W,
+    is_asked: bool,
+    frame: usize,
+) -> Result<(), CannotWrite>
+    ensures ok { OnOk result (Sends (W.contents writer.old) buffer.old (W.contents writer.new)
+        buffer.new (text_if is_asked (frame_text frame))) }
+    ensures err { OnErr result (Stops (W.contents writer.old) buffer.old (W.contents writer.new)
+        (text_if is_asked (frame_text frame))) }
+{
+    if !is_asked {
+        return Ok(());
+    }
+    put_parts(
+        buffer,
+        writer,
+        &[Part::Text("#"), Part::Number(frame), Part::Text(" ")],
+    )
+}
+
+/// Prints the time and the endpoints of a datagram, where they are asked for.
+fn put_endpoints<W: Write>(
+    buffer: &mut Buffer,
+    writer: &mut W,
+    is_asked: bool,
+    datagram: &Datagram<'_>,
+) -> Result<(), CannotWrite>
+    ensures ok { OnOk result (Sends (W.contents writer.old) buffer.old (W.contents writer.new)
+        buffer.new (text_if is_asked (head_text (view_datagram datagram.now)))) }
+    ensures err { OnErr result (Stops (W.contents writer.old) buffer.old (W.contents writer.new)
+        (text_if is_asked (head_text (view_datagram datagram.now)))) }
+{
+    if !is_asked {
+        return Ok(());
+    }
+    put_head(buffer, writer, datagram)
 }
 
 /// How many bytes the first line has, with the line feed that ends it.

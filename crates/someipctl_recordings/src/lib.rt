@@ -5,7 +5,7 @@
 //!   [`WholeLimits`]: what bounds messages that are put together from their segments;
 //! - [`ShownRecording`]: how that ended, with what was [`LeftOut`];
 //! - [`limits_in`]: the limits that texts say; [`number_or`]: a number of such a text;
-//! - [`ports`]: the ports that a text names;
+//! - [`lists`]: the ports, interfaces, VLAN IDs and addresses that a text names;
 //! - [`read_loop`], [`moments`], [`heads`], [`reassembly`]: what comes next of a recording, its moment, the text of
 //!   its time, and its endpoints, for whatever else goes over a recording;
 //! - [`audit`]: the command `audit`, over the same way of reading;
@@ -22,18 +22,19 @@
 
 mod asked;
 pub mod audit;
+pub mod choice;
 mod datagrams;
 pub mod heads;
 pub mod laws;
-mod left_out;
 mod limits;
+pub mod lists;
 pub mod moments;
-pub mod ports;
 pub mod read_loop;
 pub mod reassembly;
 mod recordings;
+mod wanted;
 
-pub use asked::{Asked, WholeLimits};
-pub use left_out::LeftOut;
-pub use limits::{LimitsError, limits_in, number_or};
-pub use recordings::{ShownRecording, show_recording};
+pub use asked::{Asked, Heads, WholeLimits};
+pub use limits::{LimitsError, limits_in, number_or, number_within};
+pub use recordings::{FileFault, ShownRecording, StoppedAt, show_recording};
+pub use wanted::Wanted;

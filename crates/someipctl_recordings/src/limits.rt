@@ -58,7 +58,7 @@ pub fn number_or(text: Option<&str>, default: u64, low: u64, high: u64) -> Optio
 }
 
 /// The number that a text writes, if it lies between two others or is one of them.
-fn number_within(text: &str, low: u64, high: u64) -> Option<u64>
+pub fn number_within(text: &str, low: u64, high: u64) -> Option<u64>
     ensures { result ≡ number_within low high text.now }
 {
     let number = plain_u64(text)?;

@@ -1,44 +1,63 @@
-//! The command `recording`: the datagrams of a recording of network traffic, message by message, as it is
+//! The command `recording`: the datagrams of recordings of network traffic, message by message, as they are
 //! read.
-ghost use Rattle.std.specs.Prelude.{◌≡◌, ◌<◌, ◌+◌, ◌^◌, [], ◌∷◌, Ok, OnOk, OnErr, IfOk, option_map};
+ghost use Rattle.std.specs.Prelude.{◌≡◌, ◌≤◌, ◌<◌, ◌+◌, ◌^◌, [], ◌∷◌, Ok, OnOk, OnErr, IfErr, IfOk, length, map, option_map};
 ghost use Rattle.recording.specs.View.{view_datagram, view_record};
+ghost use Rattle.recording_packets.specs.Intake.{after_packet, nothing_taken};
+ghost use Rattle.recording_packets.specs.LeftOut.{total};
+ghost use Rattle.recording_packets.specs.View.{view_arrival};
 ghost use Rattle.someipctl_recordings.specs.Gathered.{IsInTime, view_store};
-ghost use Rattle.someipctl_recordings.specs.LeftOut.{left_out_of, plus, total};
-ghost use Rattle.someipctl_recordings.specs.Asked.{AskedValue, asked_in, asked_of};
+ghost use Rattle.someipctl_recordings.specs.Asked.{AskedValue, asked_from};
 ghost use Rattle.someipctl_recordings.specs.RecordedText.{after_all, after_datagram, empty_store};
-ghost use Rattle.someipctl_recordings.specs.Asked.{is_asked, is_at_port};
 ghost use Rattle.someipctl_recordings.specs.RecordedText.{AreRecorded, IsRecordedText};
 ghost use Rattle.someipctl_show.specs.TextKinds.{SendsOne, StopsOne};
-ghost use Rattle.someipctl_recordings.specs.RecordingResult.{BeginsRecording, PutsRecording};
-ghost use Rattle.someipctl_recordings.specs.RecordingResult.{ShowsRecording, nothing_shown};
-ghost use Rattle.someipctl_recordings.specs.RecordingResult.{progress_of, shown_recording, view_asked, view_limits, view_ports};
+ghost use Rattle.someipctl_io.specs.declared.Fault.TheVariants.{CannotRead};
+ghost use Rattle.someipctl_recordings.specs.RecordingResult.{BeginsRecording, PutsRecording, ShowsRecording};
+ghost use Rattle.someipctl_recordings.specs.RecordingResult.{nothing_shown, progress_of};
+ghost use Rattle.someipctl_recordings.specs.RecordingResult.{shown_recording, view_asked, view_limits};
 
-use crate::asked::{Asked, WholeLimits};
+use crate::asked::{Asked, Heads, WholeLimits};
 use crate::datagrams::{Numbered, Telling, put_recorded};
-use crate::left_out::LeftOut;
 use crate::moments::moment_of;
 use crate::read_loop::{Coming, next_coming};
-use recording::{Datagram, Record, RecordingError, RecordingReader};
+use recording::{Record, RecordingError, RecordingReader};
+use recording_packets::{Arrival, Intake, LeftOut};
 use someip_reassembly::Reassembly;
 use someipctl_io::{Buffer, Fault, Outcome, PrintFault};
-use someipctl_show::services::is_asked_by;
 use someipctl_show::value_lines::ValueLines;
 use std::alloc::{AllocError, Global};
 use std::convert::Infallible;
 use std::io::{Read, Write};
 
-/// How showing a recording ended.
+/// The fault that ends recordings, and the number of the file that has it, counted from 0.
+#[derive(Clone, Copy, PartialEq, Eq)]
+pub struct FileFault {
+    /// The number of the file.
+    pub file: usize,
+    /// The fault.
+    pub fault: RecordingError,
+}
+
+/// Why recordings were not gone over, and the number of the file at which that was, counted from 0.
+#[derive(Drop, PartialEq, Eq)]
+pub struct StoppedAt {
+    /// The number of the file.
+    pub file: usize,
+    /// Why.
+    pub fault: Fault<Infallible>,
+}
+
+/// How showing recordings ended.
 #[derive(Clone, Copy, PartialEq, Eq)]
 pub struct ShownRecording {
     /// Whether a fault of a message was shown.
     pub outcome: Outcome,
-    /// The packets that give no datagram, whatever was asked for.
+    /// The packets that give no datagram, of those that are looked at.
     pub left_out: LeftOut,
-    /// The fault that ends the recording, if one does. What comes before it was shown.
-    pub fault: Option<RecordingError>,
+    /// The fault that ends the recordings, if one does. What comes before it was shown.
+    pub fault: Option<FileFault>,
 }
 
-/// What was shown of a recording so far.
+/// What was shown of recordings so far.
 #[derive(Clone, Copy)]
 struct Shown {
     /// How many datagrams that were asked for.
@@ -47,8 +66,6 @@ struct Shown {
     now: u64,
     /// Whether a fault of a message was among them.
     is_faulty: bool,
-    /// The packets that give none.
-    left_out: LeftOut,
 }
 
 /// What goes from record to record.
@@ -56,34 +73,56 @@ struct Shown {
 struct Recorder<'t, S> {
     /// What was shown so far.
     shown: Shown,
-    /// Holds the lines of a datagram that get its time and endpoints before them. Between datagrams it is
-    /// empty.
+    /// Holds the lines of a datagram that get something before them. Between datagrams it is empty.
     lines: Buffer,
     telling: Telling<'t, S>,
 }
 
-/// Writes what a recording shows, as it is read: of each datagram that is asked for the lines of `show`,
-/// with its time and endpoints before each where these are asked for, and after the lines of a segment
-/// that makes its message whole that message, where messages are put together; the body `S` does that.
-/// What waits to be written is written before each read.
+/// Writes what recordings show, as they are read, one after the other as one recording: of each datagram
+/// that is asked for the lines of `show`, with what is asked for before each, and after the lines of a
+/// segment that makes its message whole that message, where messages are put together; the body `S` does
+/// that. What waits to be written is written before each read.
 ///
-/// One packet or block of the recording is held at a time, what its datagram says of Service Discovery,
-/// and what the body holds of messages that have come in part.
+/// One packet or block of a recording is held at a time, what its datagram says of Service Discovery, and
+/// what the body holds of messages that have come in part.
 ///
-/// A recording is not refused: a fault in it ends it, and stands in what is told of it.
+/// A recording is not refused: a fault in one ends all, and stands in what is told of them.
 pub fn show_recording<S: Reassembly + Drop, R: Read, W: Write>(
     alloc: Global,
-    source: &mut R,
+    sources: &mut [R],
     asked: &Asked<'_>,
     writer: &mut W,
-) -> Result<ShownRecording, Fault<Infallible>>
-    // A text of what comes before the recording's fault was written, or of all of it, and what is told
-    // of the recording is so.
-    ensures shown { IfOk result (λ shown. ShowsRecording (R.remaining source.old) (view_asked asked.now)
+) -> Result<ShownRecording, StoppedAt>
+    // A text of what comes before the fault was written, or of all, and what is told is so.
+    ensures shown { IfOk result (λ shown. ShowsRecording (map R.remaining sources.old) (view_asked asked.now)
         shown (W.contents writer.old) (W.contents writer.new)) }
     // Else a beginning of such a text was.
-    ensures begun { OnErr result (BeginsRecording (R.remaining source.old) (view_asked asked.now)
+    ensures begun { OnErr result (BeginsRecording (map R.remaining sources.old) (view_asked asked.now)
         (W.contents writer.old) (W.contents writer.new)) }
+    // Only one of the files can be a file that could not be read.
+    ensures unread { IfErr result (λ stopped. stopped.fault ≡ CannotRead → stopped.file < length sources.old) }
+{
+    let mut file = 0;
+    match show_files::<S, R, W>(alloc, sources, asked, &mut file, writer) {
+        Ok(shown) => Ok(shown),
+        Err(fault) => Err(StoppedAt { file, fault }),
+    }
+}
+
+/// The same, which tells the number of the file at which it stopped.
+fn show_files<S: Reassembly + Drop, R: Read, W: Write>(
+    alloc: Global,
+    sources: &mut [R],
+    asked: &Asked<'_>,
+    file: &mut usize,
+    writer: &mut W,
+) -> Result<ShownRecording, Fault<Infallible>>
+    requires first { file.old ≡ 0 }
+    ensures shown { IfOk result (λ shown. ShowsRecording (map R.remaining sources.old) (view_asked asked.now)
+        shown (W.contents writer.old) (W.contents writer.new)) }
+    ensures begun { OnErr result (BeginsRecording (map R.remaining sources.old) (view_asked asked.now)
+        (W.contents writer.old) (W.contents writer.new)) }
+    ensures unread { IfErr result (λ fault. fault ≡ CannotRead → file.new < length sources.old) }
 {
     let mut buffer = Buffer::new(alloc)?;
     let mut recorder = Recorder {
@@ -96,7 +135,7 @@ pub fn show_recording<S: Reassembly + Drop, R: Read, W: Write>(
             bytes: Vec::new(alloc),
         },
     };
-    let shown = put_recording(source, asked, &mut recorder, &mut buffer, writer)?;
+    let shown = put_files(sources, asked, file, &mut recorder, &mut buffer, writer)?;
     buffer.flush(writer)?;
     Ok(shown)
 }
@@ -119,14 +158,16 @@ fn store_for<S: Reassembly + Drop>(
     }
 }
 
-/// Prints what a recording shows.
-fn put_recording<S: Reassembly + Drop, R: Read, W: Write>(
-    source: &mut R,
+/// Prints what the files show, one after the other.
+fn put_files<S: Reassembly + Drop, R: Read, W: Write>(
+    sources: &mut [R],
     asked: &Asked<'_>,
+    file: &mut usize,
     recorder: &mut Recorder<'_, S>,
     buffer: &mut Buffer,
     writer: &mut W,
 ) -> Result<ShownRecording, Fault<Infallible>>
+    requires first { file.old ≡ 0 }
     requires empty { buffer.old ≡ [] }
     requires shown { recorder.old.shown ≡ nothing_shown }
     requires lines { recorder.old.lines ≡ [] }
@@ -134,23 +175,34 @@ fn put_recording<S: Reassembly + Drop, R: Read, W: Write>(
     requires store { view_store S.limits S.parts recorder.old.telling.store
         ≡ option_map empty_store (option_map view_limits asked.now.whole) }
     requires in_time { IsInTime S.parts 0 recorder.old.telling.store }
-    ensures puts { IfOk result (λ shown. PutsRecording (R.remaining source.old) (view_asked asked.now)
+    ensures puts { IfOk result (λ shown. PutsRecording (map R.remaining sources.old) (view_asked asked.now)
         shown (W.contents writer.old) (W.contents writer.new) buffer.new) }
-    ensures begun { OnErr result (BeginsRecording (R.remaining source.old) (view_asked asked.now)
+    ensures begun { OnErr result (BeginsRecording (map R.remaining sources.old) (view_asked asked.now)
         (W.contents writer.old) (W.contents writer.new)) }
+    ensures within { OnErr result (file.new < length sources.old) }
 {
-    let mut recording = RecordingReader::new(recorder.telling.alloc);
-    loop {
-        let coming = next_coming(&mut recording, source, buffer, writer)?;
+    let alloc = recorder.telling.alloc;
+    let mut intake = Intake::new(alloc, &asked.wanted.packets);
+    let mut recording = RecordingReader::new(alloc);
+    while *file < sources.len() {
+        let coming = next_coming(&mut recording, &mut sources[*file], buffer, writer)?;
         match coming {
             Coming::Record => {}
-            Coming::Fault(fault) => return Ok(recorder.shown.ended(Some(fault))),
-            Coming::End => return Ok(recorder.shown.ended(None)),
+            Coming::Fault(fault) => {
+                let fault = FileFault { file: *file, fault };
+                return Ok(recorder.shown.ended(intake.left_out(), Some(fault)));
+            }
+            Coming::End => {
+                recording = RecordingReader::new(alloc);
+                *file += 1;
+                continue;
+            }
         }
         if let Some(found) = recording.record() {
-            put_record(buffer, writer, &found, asked, recorder)?;
+            put_record(buffer, writer, &found, asked, &mut intake, recorder)?;
         }
     }
+    Ok(recorder.shown.ended(intake.left_out(), None))
 }
 
 impl Shown {
@@ -162,100 +214,101 @@ impl Shown {
             datagrams: 0,
             now: 0,
             is_faulty: false,
-            left_out: LeftOut::new(),
         }
     }
 
-    /// What is told at the end of the recording, or at its fault.
-    fn ended(self, fault: Option<RecordingError>) -> ShownRecording
-        ensures { result ≡ shown_recording self fault }
+    /// What is told at the end of the recordings, or at their fault.
+    fn ended(self, left_out: LeftOut, fault: Option<FileFault>) -> ShownRecording
+        ensures { result ≡ shown_recording self left_out fault }
     {
         ShownRecording {
             outcome: Outcome::of(self.is_faulty),
-            left_out: self.left_out,
+            left_out,
             fault,
         }
     }
 }
 
-/// Prints what a record shows, and counts it.
+/// Takes a record, and prints what its datagram shows, if it gives one that is asked for.
 fn put_record<S: Reassembly + Drop, W: Write>(
     buffer: &mut Buffer,
     writer: &mut W,
     found: &Record<'_>,
     asked: &Asked<'_>,
+    intake: &mut Intake,
     recorder: &mut Recorder<'_, S>,
 ) -> Result<(), PrintFault>
     requires empty { recorder.old.lines ≡ [] }
-    requires few { recorder.old.shown.datagrams + total recorder.old.shown.left_out + 1 < 2 ^ 64 }
+    requires few { recorder.old.shown.datagrams ≤ intake.old.frames }
     requires types { recorder.old.telling.values.types.now ≡ asked.now.types.now }
     requires in_time { IsInTime S.parts recorder.old.shown.now recorder.old.telling.store }
     ensures empty { OnOk result (recorder.new.lines ≡ []) }
     ensures ok { OnOk result (SendsOne (AreRecorded (view_asked asked.now)
         (progress_of recorder.old.shown (view_store S.limits S.parts recorder.old.telling.store))
-        (asked_of (view_asked asked.now) (Ok (view_record found.now) ∷ [])))
+        (asked_from (view_asked asked.now) intake.old (Ok (view_record found.now) ∷ [])))
         (W.contents writer.old) buffer.old (W.contents writer.new) buffer.new) }
     ensures progress { OnOk result (progress_of recorder.new.shown (view_store S.limits S.parts recorder.new.telling.store)
         ≡ after_all (view_asked asked.now)
         (progress_of recorder.old.shown (view_store S.limits S.parts recorder.old.telling.store))
-        (asked_of (view_asked asked.now) (Ok (view_record found.now) ∷ []))) }
-    ensures left_out { OnOk result (recorder.new.shown.left_out
-        ≡ plus recorder.old.shown.left_out (left_out_of (Ok (view_record found.now) ∷ []))) }
+        (asked_from (view_asked asked.now) intake.old (Ok (view_record found.now) ∷ []))) }
+    ensures took { OnOk result (intake.new
+        ≡ after_packet (view_asked asked.now).wanted.packets intake.old (view_record found.now)) }
+    ensures few { OnOk result (recorder.new.shown.datagrams ≤ intake.new.frames) }
     ensures in_time { OnOk result (IsInTime S.parts recorder.new.shown.now recorder.new.telling.store) }
     ensures err { OnErr result (StopsOne (AreRecorded (view_asked asked.now)
         (progress_of recorder.old.shown (view_store S.limits S.parts recorder.old.telling.store))
-        (asked_of (view_asked asked.now) (Ok (view_record found.now) ∷ [])))
+        (asked_from (view_asked asked.now) intake.old (Ok (view_record found.now) ∷ [])))
         (W.contents writer.old) buffer.old (W.contents writer.new)) }
     ensures types { recorder.new.telling.values.types.now ≡ recorder.old.telling.values.types.now }
 {
-    if let Record::Other(kind) = found {
-        recorder.shown.left_out.add(*kind);
-        return Ok(());
-    }
-    let Some(datagram) = asked_in(asked, found) else {
+    let taken = intake.take(&asked.wanted.packets, found)?;
+    let Some(arrival) = intake.arrival(taken) else {
         return Ok(());
     };
-    put_next(buffer, writer, datagram, asked.endpoints, recorder)
+    if !asked.wanted.wants(&arrival.datagram) {
+        return Ok(());
+    }
+    put_next(buffer, writer, arrival, asked.heads, recorder)
 }
 
 /// Prints the text of the next datagram that is asked for, and counts it.
 fn put_next<S: Reassembly + Drop, W: Write>(
     buffer: &mut Buffer,
     writer: &mut W,
-    datagram: Datagram<'_>,
-    endpoints: bool,
+    arrival: Arrival<'_>,
+    heads: Heads,
     recorder: &mut Recorder<'_, S>,
 ) -> Result<(), PrintFault>
     requires empty { recorder.old.lines ≡ [] }
     requires few { recorder.old.shown.datagrams + 1 < 2 ^ 64 }
     requires in_time { IsInTime S.parts recorder.old.shown.now recorder.old.telling.store }
     ensures empty { OnOk result (recorder.new.lines ≡ []) }
-    ensures ok { (asked : AskedValue) → asked.types ≡ recorder.old.telling.values.types.now → asked.endpoints ≡ endpoints
+    ensures ok { (asked : AskedValue) → asked.types ≡ recorder.old.telling.values.types.now → asked.heads ≡ heads
         → OnOk result (SendsOne (IsRecordedText asked
         (progress_of recorder.old.shown (view_store S.limits S.parts recorder.old.telling.store))
-        (view_datagram datagram.entry)) (W.contents writer.old) buffer.old (W.contents writer.new) buffer.new) }
+        (view_arrival arrival.entry)) (W.contents writer.old) buffer.old (W.contents writer.new) buffer.new) }
     ensures progress { (asked : AskedValue) → asked.types ≡ recorder.old.telling.values.types.now
         → OnOk result (progress_of recorder.new.shown (view_store S.limits S.parts recorder.new.telling.store)
         ≡ after_datagram asked (progress_of recorder.old.shown (view_store S.limits S.parts recorder.old.telling.store))
-        (view_datagram datagram.entry)) }
-    ensures left_out { recorder.new.shown.left_out ≡ recorder.old.shown.left_out }
+        (view_datagram arrival.entry.datagram)) }
+    ensures one { OnOk result (recorder.new.shown.datagrams ≡ recorder.old.shown.datagrams + 1) }
     ensures in_time { OnOk result (IsInTime S.parts recorder.new.shown.now recorder.new.telling.store) }
-    ensures err { (asked : AskedValue) → asked.types ≡ recorder.old.telling.values.types.now → asked.endpoints ≡ endpoints
+    ensures err { (asked : AskedValue) → asked.types ≡ recorder.old.telling.values.types.now → asked.heads ≡ heads
         → OnErr result (StopsOne (IsRecordedText asked
         (progress_of recorder.old.shown (view_store S.limits S.parts recorder.old.telling.store))
-        (view_datagram datagram.entry)) (W.contents writer.old) buffer.old (W.contents writer.new)) }
+        (view_arrival arrival.entry)) (W.contents writer.old) buffer.old (W.contents writer.new)) }
     ensures types { recorder.new.telling.values.types.now ≡ recorder.old.telling.values.types.now }
 {
     let next = Numbered {
         k: recorder.shown.datagrams + 1,
-        now: moment_of(recorder.shown.now, datagram.time),
-        datagram,
+        now: moment_of(recorder.shown.now, arrival.datagram.time),
+        arrival,
     };
     let is_faulty = put_recorded(
         buffer,
         writer,
         &next,
-        endpoints,
+        heads,
         &mut recorder.lines,
         &mut recorder.telling,
     )?;
@@ -263,36 +316,4 @@ fn put_next<S: Reassembly + Drop, W: Write>(
     recorder.shown.now = next.now;
     recorder.shown.is_faulty |= is_faulty;
     Ok(())
-}
-
-/// The datagram of a record, where there is one that is asked for.
-fn asked_in<'a>(asked: &Asked<'_>, found: &Record<'a>) -> Option<Datagram<'a>>
-    ensures { option_map view_datagram result
-        ≡ asked_in (view_asked asked.now) (Ok (view_record found.now)) }
-{
-    match found {
-        Record::Datagram(datagram) => {
-            if is_asked(asked, datagram) {
-                Some(*datagram)
-            } else {
-                None
-            }
-        }
-        Record::Other(_) => None,
-    }
-}
-
-fn is_asked(asked: &Asked<'_>, datagram: &Datagram<'_>) -> bool
-    ensures { result ≡ is_asked (view_asked asked.now) (view_datagram datagram.now) }
-{
-    is_at_port(asked.ports, datagram) && is_asked_by(asked.services, datagram.payload)
-}
-
-fn is_at_port(ports: Option<&[u16]>, datagram: &Datagram<'_>) -> bool
-    ensures { result ≡ is_at_port (view_ports ports.entry) (view_datagram datagram.now) }
-{
-    match ports {
-        Some(ports) => ports.contains(&datagram.from.port) || ports.contains(&datagram.to.port),
-        None => true,
-    }
 }

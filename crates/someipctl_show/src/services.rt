@@ -103,7 +103,7 @@ fn service_of(word: &[u8]) -> Option<AskedService>
 }
 
 /// The ID that four hex digits write.
-fn id_of(digits: &[u8]) -> Option<u16>
+pub fn id_of(digits: &[u8]) -> Option<u16>
     ensures { result ≡ id_in digits.now }
 {
     let mut bytes = [0u8; 2];
@@ -145,7 +145,8 @@ fn asks_item(services: &[AskedService], item: &Result<Message<'_>, WireError>) -
     }
 }
 
-fn names_header(services: &[AskedService], header: &Header) -> bool
+/// Whether a message with this header is of one of the services.
+pub fn names_header(services: &[AskedService], header: &Header) -> bool
     ensures { result ≡ list_any (asks_header header.now) services.now }
 {
     services.iter().any(|s| asks_header(s, header))

@@ -7,12 +7,14 @@ use crate::printed::is_printed;
 use crate::slow::{Limits, SlowWriter, UNLIMITED};
 use endings::is_end;
 use recording::RecordingError;
-use rows::{ROWS, Row, SHOWING};
+use rows::{Call, RECORDINGS, ROWS, RecordingRow, Row, SHOWING};
 use someip_world::{SetupError, StepFault};
-use someipctl_cli::{Command, Failure, LineError, Refusal, answer_error, command_of};
+use someipctl_cli::{
+    Command, Failure, LineError, OptionName, RecordingOptions, Refusal, answer_error, command_of,
+};
 use someipctl_io::Fault;
 use someipctl_recordings::LimitsError;
-use someipctl_recordings::ports::PortsError;
+use someipctl_recordings::lists::ListError;
 use someipctl_run::{ScheduleRefusal, SetupRefusal, read_setup};
 use someipctl_show::BadCaptureLine;
 use someipctl_show::payload::PayloadRefusal;
@@ -86,9 +88,10 @@ fn failures_of_runs_and_recordings_have_texts_and_statuses(rt: HostRuntime) {
     assert!(rt; is_told(alloc, bad_recording, "recording: BlockLength at 28", 1));
     let unread = Failure::of(Fault::CannotRead, "x");
     assert!(rt; is_told(alloc, unread, "cannot read x", 4));
-    let ports = Failure::of_ports(PortsError::BadPorts, "0", "recording [OPTIONS] <FILE>");
+    let form = "recording [OPTIONS] <FILE>...";
+    let ports = Failure::of_list(ListError::BadList, OptionName::Ports, "0", form);
     let usage =
-        "error: invalid value '0' for '--ports <PORTS>': ports are numbers from 1 to 65535 with commas between them\n\nUsage: someipctl recording [OPTIONS] <FILE>";
+        "error: invalid value '0' for '--ports <PORTS>': ports are numbers from 1 to 65535 with commas between them\n\nUsage: someipctl recording [OPTIONS] <FILE>...";
     assert!(rt; is_told(alloc, ports, usage, 2));
 }
 
@@ -107,7 +110,7 @@ fn failures_of_options_have_texts_and_statuses(rt: HostRuntime) {
     assert!(rt; is_told(alloc, clash, "types: message 5: Clash message", 1));
     let slots = Failure::BadLimits(LimitsError::BadSlots);
     let told =
-        "error: invalid value for '--whole-slots <N>': 1 to 1024\n\nUsage: someipctl recording [OPTIONS] <FILE>";
+        "error: invalid value for '--whole-slots <N>': 1 to 1024\n\nUsage: someipctl recording [OPTIONS] <FILE>...";
     assert!(rt; is_told(alloc, slots, told, 2));
 }
 
@@ -174,15 +177,42 @@ fn come_to(alloc: Global, words: &[&str], wanted: Command<'static>) -> bool {
 }
 
 /// Whether the words of a row come to its command.
-fn is_right(alloc: Global, words: &str, wanted: Command<'static>) -> Option<bool> {
+fn is_right(alloc: Global, words: &str, wanted: &Call) -> Option<bool> {
     let words: Vec<&str> = words.split('|').collect(alloc).ok()?;
-    Some(come_to(alloc, &words, wanted))
+    Some(come_to(alloc, &words, wanted.command()))
 }
 
 /// The words of each of these rows come to its command.
 fn check(rt: &impl Abort, alloc: Global, rows: &[Row]) {
     for (words, wanted) in rows {
-        assert!(rt; is_right(alloc, words, *wanted) == Some(true), "{words}");
+        assert!(rt; is_right(alloc, words, wanted) == Some(true), "{words}");
+    }
+}
+
+/// The command that asks for recordings.
+fn recordings_of(
+    alloc: Global,
+    paths: &[&'static str],
+    options: RecordingOptions<'static>,
+) -> Option<Command<'static>> {
+    let mut files = Vec::new(alloc);
+    for path in paths {
+        files.push(*path).ok()?;
+    }
+    Some(Command::Recording { files, options })
+}
+
+/// Whether the words of a row ask for its recordings.
+fn asks_for(alloc: Global, (words, files, options): &RecordingRow) -> Option<bool> {
+    let words: Vec<&str> = words.split('|').collect(alloc).ok()?;
+    let wanted = recordings_of(alloc, files, *options)?;
+    Some(come_to(alloc, &words, wanted))
+}
+
+#[test]
+fn words_ask_for_recordings(rt: HostRuntime) {
+    for row in RECORDINGS {
+        assert!(rt; asks_for(rt.alloc(), row) == Some(true), "{}", row.0);
     }
 }
 

@@ -1,12 +1,11 @@
 //! Commands that show datagrams, without what their options add.
 use someip_tp::IntervalPool;
 use someipctl_io::{Fault, Outcome};
-use someipctl_recordings::{Asked, ShownRecording, show_recording};
+use someipctl_recordings::{Asked, Heads, ShownRecording, StoppedAt, Wanted, show_recording};
 use someipctl_show::BadCaptureLine;
 use someipctl_show::show::show;
 use someipctl_show::types::MessageTypes;
 use std::alloc::Global;
-use std::convert::Infallible;
 use std::io::{Read, Write};
 
 /// Shows all of a capture, and no value.
@@ -19,20 +18,25 @@ pub fn show_all<R: Read, W: Write>(
     show(alloc, reader, None, &types, writer)
 }
 
-/// Shows the datagrams of a recording at these ports with their endpoints, no value and no whole message.
+/// Shows the datagrams of recordings at these ports with their endpoints, no value and no whole message.
 pub fn show_endpoints<R: Read, W: Write>(
     alloc: Global,
-    source: &mut R,
+    sources: &mut [R],
     ports: Option<&[u16]>,
     writer: &mut W,
-) -> Result<ShownRecording, Fault<Infallible>> {
+) -> Result<ShownRecording, StoppedAt> {
     let types = MessageTypes::none(alloc);
     let asked = Asked {
-        ports,
-        services: None,
+        wanted: Wanted {
+            ports,
+            ..Wanted::all()
+        },
         types: &types,
-        endpoints: true,
+        heads: Heads {
+            frame: false,
+            endpoints: true,
+        },
         whole: None,
     };
-    show_recording::<IntervalPool, R, W>(alloc, source, &asked, writer)
+    show_recording::<IntervalPool, R, W>(alloc, sources, &asked, writer)
 }

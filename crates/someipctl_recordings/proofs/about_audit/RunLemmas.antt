@@ -1,30 +1,30 @@
 -- The audit of a recording so far.
-use Rattle.std.proofs.Common.{◌≡◌, ℕ, ◌+◌, List, [], ◌∷◌, ◌++◌, map, length, Option, Some, None, Result, Ok, Err, refl, sym, ap, subst, ◌∙◌, append_assoc, inl, inr, arith, add-zero, suc, nat_lt, lt-ltb, length-append}
+use Rattle.std.proofs.Common.{◌≡◌, ℕ, ◌+◌, ◌<◌, ◌≤◌, List, [], ◌∷◌, ◌++◌, map, length, Option, Some, None, Result, Ok, Err, refl, sym, ap, subst, ◌∙◌, append_assoc, inl, inr, arith, suc, nat_lt, lt-ltb, length-append}
 use Rattle.std.specs.List.{flat_map}
+use Rattle.std.specs.Option.{option_to_list}
 use Rattle.std.specs.Result.{IfOk}
 use Rattle.std.proofs.lemmas.List.{append-nil}
 use Rattle.std.proofs.lemmas.Grind.{flat_map-append}
 use Rattle.recording.specs.declared.RecordingError.{RecordingError}
-use Rattle.recording.specs.declared.Skipped.{Skipped}
-use Rattle.recording.specs.declared.Skipped.TheVariants.{LinkType, NotIpv4, Fragment, NotUdp, Cut, BadUdpLength}
-use Rattle.someipctl_recordings.specs.declared.left_out.LeftOut.{LeftOut}
-use Rattle.recording.specs.HeldItems.{held_of}
-use Rattle.recording.specs.Packets.{DatagramValue, RecordValue, datagram, other}
+use Rattle.recording.specs.Captured.{RecordValue}
+use Rattle.recording.specs.Packets.{DatagramValue}
+use Rattle.recording_packets.specs.Intake.{ArrivalValue, IntakeValue, after_packet, after_packets, arrived, left_out_at, nothing_taken}
+use Rattle.recording_packets.proofs.IntakeLemmas.{after_packets-append}
+use Rattle.someipctl_recordings.specs.declared.recordings.FileFault.{FileFault}
 use Rattle.recording.specs.Readers.{CanFollow, ReaderValue, to_come}
 use Rattle.recording.specs.Records.{Item}
 use Rattle.someip_audit.specs.declared.FellDue.{FellDue}
 use Rattle.someip_audit.specs.Audits.{AuditState, Hears, Report, Seen, fell, seen_messages}
-use Rattle.someipctl_io.specs.Inputs.{WasLeft}
 use Rattle.someipctl_io.specs.Outcomes.{fault_outcome}
 use Rattle.someipctl_io.specs.Sending.{Sends, Stops}
 use Rattle.someipctl_io.proofs.SendingLemmas.{Sends-all, Sends-flush, Sends-nil, Sends-trans, Stops-after, Stops-flush}
 use Rattle.someipctl_recordings.specs.declared.recordings.ShownRecording.{ShownRecording}
 use Rattle.someipctl_recordings.specs.Coming.{Comes}
-use Rattle.someipctl_recordings.specs.LeftOut.{counted, left_out_of, nothing_left_out, plus, total}
+use Rattle.someipctl_recordings.specs.Files.{WereLeft, fault_among, items_of_files}
 use Rattle.someipctl_recordings.specs.Moments.{moment_of}
-use Rattle.someipctl_recordings.specs.RecordingResult.{fault_among}
-use Rattle.someipctl_recordings.proofs.ComingLemmas.{begin, comes_both, comes_none, part_file, whole_file}
-use Rattle.someipctl_recordings.proofs.RecordedLemmas.{fault-append, left_out-append, plus-nothing}
+use Rattle.someipctl_recordings.proofs.ComingLemmas.{begin}
+use Rattle.someipctl_recordings.proofs.FileLemmas.{AreRead, IsStep, WholeFiles, left_at, part_files, reads_all, reads_begin, reads_fault, reads_more, reads_next, told}
+use Rattle.someipctl_recordings.proofs.RecordedLemmas.{fault-append}
 use Rattle.someipctl_recordings.specs.declared.audit.audits.Gone.{Gone}
 use Rattle.someipctl_recordings.specs.declared.audit.auditing.SeenDatagram.{SeenDatagram}
 use Rattle.someipctl_recordings.specs.declared.audit.tally.Tally.{Tally}
@@ -32,7 +32,7 @@ use Rattle.someipctl_recordings.specs.audit.Scenes.{view_seen}
 use Rattle.someipctl_recordings.specs.audit.AuditResult.{BeginsAudit, IsAuditText, ShowsAudit, has_findings}
 use Rattle.someipctl_recordings.specs.audit.AuditText.{Looked, audit_text, fell_line, report_line, report_lines, summary_text}
 use Rattle.someipctl_recordings.specs.audit.Runs.{EndsWith, PutsAudit, PutsDatagram, PutsEnd, PutsLast, PutsNext, PutsRecord, StopsDatagram, StopsEnd, StopsLast, StopsNext, StopsRecord}
-use Rattle.someipctl_recordings.specs.audit.SeenIn.{AskedAudit, Tells, TellsSome, audit_at, datagrams_in, looked_more, looked_of, none_looked, seen_from, seen_in, seen_next}
+use Rattle.someipctl_recordings.specs.audit.SeenIn.{AskedAudit, Tells, TellsSome, audit_at, datagrams_from, datagrams_in, looked_more, looked_of, none_looked, seen_from, seen_in, seen_next}
 use Rattle.someipctl_recordings.specs.audit.Steps.{CountsMore, PutsSeen, StopsSeen}
 use Rattle.someipctl_recordings.specs.audit.Tallies.{Counts}
 use Rattle.someipctl_recordings.proofs.about_audit.StepLemmas.{counts_none, stops_here}
@@ -44,30 +44,37 @@ if_ok_three (Err e) P Q R S f p q t = tt
 
 -- ---- so far
 
+-- the datagrams of the items that came, and what is known of the packets after them
+abbrev pub came : AskedAudit → List Item → List DatagramValue
+came asked items = datagrams_from asked.packets (nothing_taken asked.packets) items
+
+abbrev pub taken : AskedAudit → List Item → IntakeValue
+taken asked items = after_packets asked.packets (nothing_taken asked.packets) items
+
 -- the items that came were gone over, and none of them is a fault
-pub record IsAudited (asked : AskedAudit) (r : ReaderValue) (were are before after : Option (List ℕ)) (held : List ℕ) (audit : Option AuditState) (gone : Gone) : Type 0 where
+pub record IsAudited (asked : AskedAudit) (inputs ares : List (Option (List ℕ))) (k : ℕ) (r : ReaderValue) (before after : Option (List ℕ)) (held : List ℕ) (audit : Option AuditState) (gone : Gone) (s : IntakeValue) : Type 0 where
   pub done : List Item
   pub reports : List Report
   pub looked : Looked
-  pub comes : Comes begin r were are done
-  pub sends : (others : List DatagramValue) → Sends before [] after held (report_lines (datagrams_in done ++ others) reports)
-  pub number : gone.datagrams ≡ length (datagrams_in done)
-  pub moment : gone.now ≡ latest 0 (datagrams_in done)
+  pub reads : AreRead inputs ares k r done
+  pub sends : (others : List DatagramValue) → Sends before [] after held (report_lines (came asked done ++ others) reports)
+  pub number : gone.datagrams ≡ length (came asked done)
+  pub moment : gone.now ≡ latest 0 (came asked done)
   pub goes : (others : List Seen) (rest : List Report) (t : Tells asked gone.now audit others rest)
-      → Goes asked (seen_in (datagrams_in done) ++ others) (reports ++ rest) (looked_plus looked (looked_of asked gone.now audit others rest t))
-  pub some : (others : List Seen) (rest : List Report) → TellsSome asked gone.now audit others rest → TellsSome asked 0 None (seen_in (datagrams_in done) ++ others) (reports ++ rest)
+      → Goes asked (seen_in (came asked done) ++ others) (reports ++ rest) (looked_plus looked (looked_of asked gone.now audit others rest t))
+  pub some : (others : List Seen) (rest : List Report) → TellsSome asked gone.now audit others rest → TellsSome asked 0 None (seen_in (came asked done) ++ others) (reports ++ rest)
   pub counts : Counts gone.tally reports looked
-  pub left_out : gone.left_out ≡ left_out_of done
+  pub took : s ≡ taken asked done
   pub none : fault_among done ≡ None
 
-pub audited_begin : (asked : AskedAudit) (r : ReaderValue) (known before : Option (List ℕ)) (held : List ℕ) (audit : Option AuditState) (gone : Gone)
-    → r ≡ begin → held ≡ [] → audit ≡ None → Counts gone.tally [] none_looked → gone.datagrams ≡ 0 → gone.now ≡ 0 → gone.left_out ≡ nothing_left_out
-    → IsAudited asked r known known before before held audit gone
-audited_begin asked r known before held audit gone is empty none counts number moment nothing = record {
+pub audited_begin : (asked : AskedAudit) (inputs : List (Option (List ℕ))) (r : ReaderValue) (before : Option (List ℕ)) (held : List ℕ) (audit : Option AuditState) (gone : Gone) (s : IntakeValue)
+    → r ≡ begin → held ≡ [] → audit ≡ None → Counts gone.tally [] none_looked → gone.datagrams ≡ 0 → gone.now ≡ 0 → s ≡ (nothing_taken asked.packets)
+    → IsAudited asked inputs inputs 0 r before before held audit gone s
+audited_begin asked inputs r before held audit gone s is empty none counts number moment nothing = record {
   done = [];
   reports = [];
   looked = none_looked;
-  comes = subst (λ r. Comes begin r known known []) (sym is) (comes_none begin known);
+  reads = reads_begin inputs r is;
   sends = λ others. subst (λ (h : List ℕ). Sends before [] before h []) (sym empty) (Sends-nil before []);
   number = number;
   moment = moment;
@@ -77,27 +84,45 @@ audited_begin asked r known before held audit gone is empty none counts number m
   some = subst (λ n. (others : List Seen) (rest : List Report) → TellsSome asked n audit others rest → TellsSome asked 0 None others rest) (sym moment)
       (subst (λ a. (others : List Seen) (rest : List Report) → TellsSome asked 0 a others rest → TellsSome asked 0 None others rest) (sym none) (λ others rest t. t));
   counts = counts;
-  left_out = nothing;
+  took = nothing;
   none = refl;
 }
 
--- nothing came
-pub audited_none : (asked : AskedAudit) (r new : ReaderValue) (were are now before after later : Option (List ℕ)) (held waits : List ℕ) (audit : Option AuditState) (gone : Gone)
-    → IsAudited asked r were are before after held audit gone → Comes r new are now [] → Sends after held later waits [] → IsAudited asked new were now before later waits audit gone
-audited_none asked r new were are now before after later held waits audit gone is comes sends = record {
-  done = is.done;
+-- nothing was told: the items are others, which gave the same datagrams
+audited_as : (asked : AskedAudit) (inputs ares next : List (Option (List ℕ))) (k m : ℕ) (r new : ReaderValue) (before after later : Option (List ℕ)) (held waits : List ℕ) (audit : Option AuditState) (gone : Gone) (s after_s : IntakeValue) (items : List Item)
+    → (is : IsAudited asked inputs ares k r before after held audit gone s) → AreRead inputs next m new items → came asked items ≡ came asked is.done → after_s ≡ taken asked items → fault_among items ≡ None
+    → Sends after held later waits [] → IsAudited asked inputs next m new before later waits audit gone after_s
+audited_as asked inputs ares next k m r new before after later held waits audit gone s after_s items is reads same takes none sends = record {
+  done = items;
   reports = is.reports;
   looked = is.looked;
-  comes = subst (Comes begin new were now) (append-nil is.done) (comes_both begin r new were are now is.done [] is.comes comes);
-  sends = λ others. Sends-flush before after later [] held waits (report_lines (datagrams_in is.done ++ others) is.reports) (is.sends others) sends;
-  number = is.number;
-  moment = is.moment;
-  goes = is.goes;
-  some = is.some;
+  reads = reads;
+  sends = λ others. subst (λ (l : List DatagramValue). Sends before [] later waits (report_lines (l ++ others) is.reports)) (sym same)
+      (Sends-flush before after later [] held waits (report_lines (came asked is.done ++ others) is.reports) (is.sends others) sends);
+  number = is.number ∙ ap length (sym same);
+  moment = is.moment ∙ ap (latest 0) (sym same);
+  goes = subst (λ (l : List DatagramValue). (others : List Seen) (rest : List Report) (t : Tells asked gone.now audit others rest) → Goes asked (seen_in l ++ others) (is.reports ++ rest) (looked_plus is.looked (looked_of asked gone.now audit others rest t))) (sym same) is.goes;
+  some = subst (λ (l : List DatagramValue). (others : List Seen) (rest : List Report) → TellsSome asked gone.now audit others rest → TellsSome asked 0 None (seen_in l ++ others) (is.reports ++ rest)) (sym same) is.some;
   counts = is.counts;
-  left_out = is.left_out;
-  none = is.none;
+  took = takes;
+  none = none;
 }
+
+-- nothing came
+pub audited_none : (asked : AskedAudit) (inputs ares next : List (Option (List ℕ))) (k : ℕ) (r new : ReaderValue) (now before after later : Option (List ℕ)) (held waits : List ℕ) (audit : Option AuditState) (gone : Gone) (s : IntakeValue)
+    → IsAudited asked inputs ares k r before after held audit gone s → k < length ares → IsStep ares next k now → Comes r new (left_at ares k) now [] → Sends after held later waits []
+    → IsAudited asked inputs next k new before later waits audit gone s
+audited_none asked inputs ares next k r new now before after later held waits audit gone s is within step comes sends =
+    let reads = subst (λ (l : List Item). AreRead inputs next k new l) (append-nil is.done) (reads_more inputs ares next k r new now is.done [] is.reads within step comes) in
+    audited_as asked inputs ares next k k r new before after later held waits audit gone s s is.done is reads refl is.took is.none sends
+
+-- the next file begins
+pub audited_next : (asked : AskedAudit) (inputs ares next : List (Option (List ℕ))) (k : ℕ) (r new fresh : ReaderValue) (now before after later : Option (List ℕ)) (held waits : List ℕ) (audit : Option AuditState) (gone : Gone) (s : IntakeValue)
+    → IsAudited asked inputs ares k r before after held audit gone s → k < length ares → IsStep ares next k now → Comes r new (left_at ares k) now []
+    → ((rest : List ℕ) → CanFollow new.is_whole rest → to_come new rest ≡ []) → Sends after held later waits [] → fresh ≡ begin → IsAudited asked inputs next (k + 1) fresh before later waits audit gone s
+audited_next asked inputs ares next k r new fresh now before after later held waits audit gone s is within step comes none sends is_fresh =
+    let reads = reads_next inputs ares next k r new fresh now is.done is.reads within step comes none is.none is_fresh in
+    audited_as asked inputs ares next k (k + 1) r fresh before after later held waits audit gone s s is.done is reads refl is.took is.none sends
 
 -- ---- the end
 
@@ -155,7 +180,7 @@ begin_stops asked s audit a held = record { told = []; some = inl ([], tt, refl)
 
 pub next_puts : (asked : AskedAudit) (s : SeenDatagram) (d : DatagramValue) (before after : Option AuditState) (gone : Gone) (tally : Tally) (a : Option (List ℕ)) (held : List ℕ) (b : Option (List ℕ)) (waits : List ℕ)
     → view_seen s ≡ seen_next gone.datagrams gone.now d → s.time ≡ d.time → PutsNext asked s before after gone.tally tally a held b waits
-    → PutsDatagram asked d before after gone (record { datagrams = gone.datagrams + 1; now = s.now; tally = tally; left_out = gone.left_out }) a held b waits
+    → PutsDatagram asked d before after gone (record { datagrams = gone.datagrams + 1; now = s.now; tally = tally }) a held b waits
 next_puts asked s d before after gone tally a held b waits seen time puts = record {
   state = puts.state;
   is = puts.is;
@@ -163,7 +188,6 @@ next_puts asked s d before after gone tally a held b waits seen time puts = reco
       (subst (λ t. PutsSeen t (view_seen s) (audit_at asked before (view_seen s)) puts.state gone.tally tally a held b waits) time puts.puts);
   number = refl;
   moment = ap (λ (x : Seen). x.now) seen;
-  left_out = refl;
 }
 
 pub next_stops : (asked : AskedAudit) (s : SeenDatagram) (d : DatagramValue) (before : Option AuditState) (gone : Gone) (a : Option (List ℕ)) (held : List ℕ) (b : Option (List ℕ))
@@ -203,23 +227,43 @@ one_longer n ds d is = ap (λ k. k + 1) is ∙ sym (length-append ds (d ∷ []))
 lines_on : (all : List DatagramValue) (reports more : List Report) → report_lines all reports ++ report_lines all more ≡ report_lines all (reports ++ more)
 lines_on all reports more = sym (flat_map-append (report_line all) reports more)
 
-pub audited_datagram : (asked : AskedAudit) (r new : ReaderValue) (were are now before after later last : Option (List ℕ)) (held waits rest : List ℕ) (audit next : Option AuditState) (gone more : Gone) (d : DatagramValue)
-    → IsAudited asked r were are before after held audit gone → Comes r new are now (Ok (datagram d) ∷ []) → Sends after held later waits []
-    → PutsDatagram asked d audit next gone more later waits last rest → IsAudited asked new were now before last rest next more
-audited_datagram asked r new were are now before after later last held waits rest audit next gone more d is comes sends puts =
-    let ds = datagrams_in is.done in
+-- the datagram that a record gives
+one_came : (asked : AskedAudit) (s : IntakeValue) (found : RecordValue) (given : Option ArrivalValue) → arrived asked.packets s found ≡ given
+    → datagrams_from asked.packets s (Ok found ∷ []) ≡ map (λ (a : ArrivalValue). a.datagram) (option_to_list given ++ [])
+one_came asked s found given is = ap (λ g. map (λ (a : ArrivalValue). a.datagram) (option_to_list g ++ [])) is
+
+-- the datagrams after one more record
+came_more : (asked : AskedAudit) (done : List Item) (s : IntakeValue) (found : RecordValue) (given : Option ArrivalValue) → s ≡ taken asked done → arrived asked.packets s found ≡ given
+    → came asked (done ++ Ok found ∷ []) ≡ came asked done ++ map (λ (a : ArrivalValue). a.datagram) (option_to_list given ++ [])
+came_more asked done s found given took is =
+    datagrams-append asked.packets (nothing_taken asked.packets) done (Ok found ∷ [])
+    ∙ ap (λ (q : IntakeValue). came asked done ++ datagrams_from asked.packets q (Ok found ∷ [])) (sym took)
+    ∙ ap (λ (l : List DatagramValue). came asked done ++ l) (one_came asked s found given is)
+
+-- what is known of the packets after one more
+took_more : (asked : AskedAudit) (done : List Item) (s : IntakeValue) (found : RecordValue) → s ≡ taken asked done → after_packet asked.packets s found ≡ taken asked (done ++ Ok found ∷ [])
+took_more asked done s found took =
+    ap (λ q. after_packet asked.packets q found) took ∙ sym (after_packets-append asked.packets (nothing_taken asked.packets) done (Ok found ∷ []))
+
+pub audited_datagram : (asked : AskedAudit) (inputs ares step_to : List (Option (List ℕ))) (k : ℕ) (r new : ReaderValue) (now before after later last : Option (List ℕ)) (held waits rest : List ℕ) (audit next : Option AuditState) (gone more : Gone) (s : IntakeValue) (found : RecordValue) (arrival : ArrivalValue)
+    → IsAudited asked inputs ares k r before after held audit gone s → k < length ares → IsStep ares step_to k now → Comes r new (left_at ares k) now (Ok found ∷ []) → Sends after held later waits []
+    → arrived asked.packets s found ≡ Some arrival → PutsDatagram asked arrival.datagram audit next gone more later waits last rest
+    → IsAudited asked inputs step_to k new before last rest next more (after_packet asked.packets s found)
+audited_datagram asked inputs ares step_to k r new now before after later last held waits rest audit next gone more s found arrival is within step comes sends given puts =
+    let d = arrival.datagram in
+    let ds = came asked is.done in
     let seen = seen_next gone.datagrams gone.now d in
     let told = puts.puts.told in
     let hears = puts.puts.hears in
-    let all : datagrams_in (is.done ++ Ok (datagram d) ∷ []) ≡ ds ++ d ∷ [] = datagrams-append is.done (Ok (datagram d) ∷ []) in
-    let seens : seen_in (datagrams_in (is.done ++ Ok (datagram d) ∷ [])) ≡ seen_in ds ++ seen ∷ [] = ap seen_in all ∙ seen_more gone ds (d ∷ []) is.number is.moment in
+    let all : came asked (is.done ++ Ok found ∷ []) ≡ ds ++ d ∷ [] = came_more asked is.done s found (Some arrival) is.took given in
+    let seens : seen_in (came asked (is.done ++ Ok found ∷ [])) ≡ seen_in ds ++ seen ∷ [] = ap seen_in all ∙ seen_more gone ds (d ∷ []) is.number is.moment in
     record {
-      done = is.done ++ Ok (datagram d) ∷ [];
+      done = is.done ++ Ok found ∷ [];
       reports = is.reports ++ told;
       looked = looked_more (seen_messages seen hears.between) is.looked;
-      comes = comes_both begin r new were are now is.done (Ok (datagram d) ∷ []) is.comes comes;
+      reads = reads_more inputs ares step_to k r new now is.done (Ok found ∷ []) is.reads within step comes;
       sends = λ others.
-          let whole : ds ++ d ∷ others ≡ datagrams_in (is.done ++ Ok (datagram d) ∷ []) ++ others = sym (append_assoc ds (d ∷ []) others) ∙ ap (λ (l : List DatagramValue). l ++ others) (sym all) in
+          let whole : ds ++ d ∷ others ≡ came asked (is.done ++ Ok found ∷ []) ++ others = sym (append_assoc ds (d ∷ []) others) ∙ ap (λ (l : List DatagramValue). l ++ others) (sym all) in
           subst (λ (l : List DatagramValue). Sends before [] last rest (report_lines l (is.reports ++ told))) whole
           (subst (Sends before [] last rest) (lines_on (ds ++ d ∷ others) is.reports told)
           (Sends-trans before later last [] waits rest (report_lines (ds ++ d ∷ others) is.reports) (report_lines (ds ++ d ∷ others) told)
@@ -231,8 +275,8 @@ audited_datagram asked r new were are now before after later last held waits res
       goes = moved (is.reports ++ told) (looked_more (seen_messages seen hears.between) is.looked) seens puts.is puts.moment (goes_more asked gone.now audit (seen_in ds) is.reports is.looked seen puts.state told hears is.goes);
       some = moved_some (is.reports ++ told) seens puts.is puts.moment (some_more asked gone.now audit (seen_in ds) is.reports seen puts.state told hears is.some);
       counts = puts.puts.counts is.reports is.looked is.counts;
-      left_out = puts.left_out ∙ is.left_out ∙ sym (left_out-append is.done (Ok (datagram d) ∷ []) ∙ plus-nothing (left_out_of is.done));
-      none = fault-append is.done (Ok (datagram d) ∷ []) is.none;
+      took = took_more asked is.done s found is.took;
+      none = fault-append is.done (Ok found ∷ []) is.none;
     }
   where
     moved : {one two : List Seen} {audit : Option AuditState} {state : AuditState} {now last : ℕ} (reports : List Report) (looked : Looked) → two ≡ one → audit ≡ Some state → now ≡ last
@@ -253,74 +297,30 @@ audited_datagram asked r new were are now before after later last held waits res
         (subst (λ (l : List Seen). (others : List Seen) (rest : List Report) → TellsSome asked last (Some state) others rest → TellsSome asked 0 None (l ++ others) (reports ++ rest)) (sym seens)
         some))
 
--- a record that gives none
-pub audited_other : (asked : AskedAudit) (r new : ReaderValue) (were are now before after later last : Option (List ℕ)) (held waits rest : List ℕ) (audit next : Option AuditState) (gone more : Gone) (kind : Skipped)
-    → IsAudited asked r were are before after held audit gone → Comes r new are now (Ok (other kind) ∷ []) → Sends after held later waits []
-    → next ≡ audit → more ≡ record gone { left_out = counted kind gone.left_out } → Sends later waits last rest [] → IsAudited asked new were now before last rest next more
-audited_other asked r new were are now before after later last held waits rest audit next gone more kind is comes sends same left ends =
-    let all : datagrams_in (is.done ++ Ok (other kind) ∷ []) ≡ datagrams_in is.done = datagrams-append is.done (Ok (other kind) ∷ []) ∙ append-nil (datagrams_in is.done) in
-    subst (λ a. IsAudited asked new were now before last rest a more) (sym same)
-    (subst (IsAudited asked new were now before last rest audit) (sym left)
-    (record {
-      done = is.done ++ Ok (other kind) ∷ [];
-      reports = is.reports;
-      looked = is.looked;
-      comes = comes_both begin r new were are now is.done (Ok (other kind) ∷ []) is.comes comes;
-      sends = λ others. subst (λ (l : List DatagramValue). Sends before [] last rest (report_lines (l ++ others) is.reports)) (sym all)
-          (Sends-flush before later last [] waits rest (report_lines (datagrams_in is.done ++ others) is.reports)
-          (Sends-flush before after later [] held waits (report_lines (datagrams_in is.done ++ others) is.reports) (is.sends others) sends) ends);
-      number = is.number ∙ ap length (sym all);
-      moment = is.moment ∙ ap (latest 0) (sym all);
-      goes = subst (λ (l : List DatagramValue). (others : List Seen) (rest : List Report) (t : Tells asked gone.now audit others rest) → Goes asked (seen_in l ++ others) (is.reports ++ rest) (looked_plus is.looked (looked_of asked gone.now audit others rest t))) (sym all) is.goes;
-      some = subst (λ (l : List DatagramValue). (others : List Seen) (rest : List Report) → TellsSome asked gone.now audit others rest → TellsSome asked 0 None (seen_in l ++ others) (is.reports ++ rest)) (sym all) is.some;
-      counts = is.counts;
-      left_out = ap (counted kind) is.left_out ∙ counted_last kind (left_out_of is.done) ∙ sym (left_out-append is.done (Ok (other kind) ∷ []));
-      none = fault-append is.done (Ok (other kind) ∷ []) is.none;
-    }))
-  where
-    counted_last : (kind : Skipped) (l : LeftOut) → counted kind l ≡ plus l (counted kind nothing_left_out)
-    counted_last LinkType l = rw (add-zero l.not_ipv4, add-zero l.fragmented, add-zero l.not_udp, add-zero l.cut, add-zero l.bad_udp_length) refl
-    counted_last NotIpv4 l = rw (add-zero l.link_type, add-zero l.fragmented, add-zero l.not_udp, add-zero l.cut, add-zero l.bad_udp_length) refl
-    counted_last Fragment l = rw (add-zero l.link_type, add-zero l.not_ipv4, add-zero l.not_udp, add-zero l.cut, add-zero l.bad_udp_length) refl
-    counted_last NotUdp l = rw (add-zero l.link_type, add-zero l.not_ipv4, add-zero l.fragmented, add-zero l.cut, add-zero l.bad_udp_length) refl
-    counted_last Cut l = rw (add-zero l.link_type, add-zero l.not_ipv4, add-zero l.fragmented, add-zero l.not_udp, add-zero l.bad_udp_length) refl
-    counted_last BadUdpLength l = rw (add-zero l.link_type, add-zero l.not_ipv4, add-zero l.fragmented, add-zero l.not_udp, add-zero l.cut) refl
-
 -- any record
-pub audited_record : (asked : AskedAudit) (r new : ReaderValue) (were are now before after later last : Option (List ℕ)) (held waits rest : List ℕ) (audit next : Option AuditState) (gone more : Gone) (found : RecordValue)
-    → IsAudited asked r were are before after held audit gone → Comes r new are now (Ok found ∷ []) → Sends after held later waits []
-    → PutsRecord asked found audit next gone more later waits last rest → IsAudited asked new were now before last rest next more
-audited_record asked r new were are now before after later last held waits rest audit next gone more (datagram d) is comes sends puts =
-    audited_datagram asked r new were are now before after later last held waits rest audit next gone more d is comes sends puts
-audited_record asked r new were are now before after later last held waits rest audit next gone more (other kind) is comes sends puts =
-    audited_other asked r new were are now before after later last held waits rest audit next gone more kind is comes sends puts.0 puts.1 puts.2
-
-total_more : (kind : Skipped) (l : LeftOut) → total (counted kind l) ≡ total l + 1
-total_more LinkType l = omega arith
-total_more NotIpv4 l = omega arith
-total_more Fragment l = omega arith
-total_more NotUdp l = omega arith
-total_more Cut l = omega arith
-total_more BadUdpLength l = omega arith
-
--- a record counts as one
-pub one_record : (asked : AskedAudit) (audit next : Option AuditState) (gone more : Gone) (found : RecordValue) (a : Option (List ℕ)) (held : List ℕ) (b : Option (List ℕ)) (waits : List ℕ)
-    → PutsRecord asked found audit next gone more a held b waits → more.datagrams + total more.left_out ≡ (gone.datagrams + total gone.left_out) + 1
-one_record asked audit next gone more (datagram d) a held b waits puts =
-    let left = ap total puts.left_out in
-    let number = puts.number in
-    omega (arith, left, number)
-one_record asked audit next gone more (other kind) a held b waits puts =
-    let number = ap (λ (g : Gone). g.datagrams) puts.1 in
-    let left = ap (λ (g : Gone). total g.left_out) puts.1 ∙ total_more kind gone.left_out in
-    omega (arith, left, number)
+pub audited_record : (asked : AskedAudit) (inputs ares step_to : List (Option (List ℕ))) (k : ℕ) (r new : ReaderValue) (now before after later last : Option (List ℕ)) (held waits rest : List ℕ) (audit next : Option AuditState) (gone more : Gone) (s : IntakeValue) (found : RecordValue)
+    → IsAudited asked inputs ares k r before after held audit gone s → k < length ares → IsStep ares step_to k now → Comes r new (left_at ares k) now (Ok found ∷ []) → Sends after held later waits []
+    → PutsRecord asked (arrived asked.packets s found) audit next gone more later waits last rest → IsAudited asked inputs step_to k new before last rest next more (after_packet asked.packets s found)
+audited_record asked inputs ares step_to k r new now before after later last held waits rest audit next gone more s found is within step comes sends puts =
+    go (arrived asked.packets s found) refl puts
+  where
+    go : (given : Option ArrivalValue) → arrived asked.packets s found ≡ given → PutsRecord asked given audit next gone more later waits last rest
+        → IsAudited asked inputs step_to k new before last rest next more (after_packet asked.packets s found)
+    go (Some arrival) given puts = audited_datagram asked inputs ares step_to k r new now before after later last held waits rest audit next gone more s found arrival is within step comes sends given puts
+    go None given puts =
+        let reads = reads_more inputs ares step_to k r new now is.done (Ok found ∷ []) is.reads within step comes in
+        let same : came asked (is.done ++ Ok found ∷ []) ≡ came asked is.done = came_more asked is.done s found None is.took given ∙ append-nil (came asked is.done) in
+        subst (λ a. IsAudited asked inputs step_to k new before last rest a more (after_packet asked.packets s found)) (sym puts.0)
+        (subst (λ g. IsAudited asked inputs step_to k new before last rest audit g (after_packet asked.packets s found)) (sym puts.1)
+        (audited_as asked inputs ares step_to k k r new before after last held rest audit gone s (after_packet asked.packets s found) (is.done ++ Ok found ∷ []) is reads same
+        (took_more asked is.done s found is.took) (fault-append is.done (Ok found ∷ []) is.none) (Sends-flush after later last held waits rest [] sends puts.2)))
 
 -- ---- a beginning
 
-begins_some : (asked : AskedAudit) (input before last : Option (List ℕ)) (file : List ℕ) → WasLeft input file → (ds : List DatagramValue) → datagrams_in (held_of file) ≡ ds
-    → (reports : List Report) → TellsSome asked 0 None (seen_in ds) reports → Stops before [] last (report_lines ds reports) → BeginsAudit input asked before last
-begins_some asked input before last file left ds all reports some stops = record {
-  file = file;
+begins_some : (asked : AskedAudit) (inputs : List (Option (List ℕ))) (before last : Option (List ℕ)) (files : List (List ℕ)) → WereLeft inputs files → (ds : List DatagramValue) → datagrams_in asked.packets files ≡ ds
+    → (reports : List Report) → TellsSome asked 0 None (seen_in ds) reports → Stops before [] last (report_lines ds reports) → BeginsAudit inputs asked before last
+begins_some asked inputs before last files left ds all reports some stops = record {
+  files = files;
   left = left;
   sent = stops.sends.sent;
   unsent = stops.unsent;
@@ -329,38 +329,40 @@ begins_some asked input before last file left ds all reports some stops = record
 }
 
 -- nothing was written
-pub begins_nothing : (asked : AskedAudit) (known before : Option (List ℕ)) → BeginsAudit known asked before before
-begins_nothing asked known before =
-    let f = part_file begin known known [] (comes_none begin known) in
-    begins_some asked known before before f.0 f.2 (datagrams_in (held_of f.0)) refl [] (tells_nothing asked 0 None (seen_in (datagrams_in (held_of f.0)))) (stops_here before [] before [] [] (Sends-nil before []))
+pub begins_nothing : (asked : AskedAudit) (inputs : List (Option (List ℕ))) (before : Option (List ℕ)) → BeginsAudit inputs asked before before
+begins_nothing asked inputs before =
+    let f = part_files inputs inputs 0 begin [] (reads_begin inputs begin refl) in
+    begins_some asked inputs before before f.files f.left (datagrams_in asked.packets f.files) refl [] (tells_nothing asked 0 None (seen_in (datagrams_in asked.packets f.files))) (stops_here before [] before [] [] (Sends-nil before []))
 
 -- where it stops before the next item
-pub stops_before : (asked : AskedAudit) (r : ReaderValue) (were are before after later : Option (List ℕ)) (held : List ℕ) (audit : Option AuditState) (gone : Gone)
-    → IsAudited asked r were are before after held audit gone → Stops after held later [] → BeginsAudit were asked before later
-stops_before asked r were are before after later held audit gone is stops =
-    let f = part_file r were are is.done is.comes in
-    let ds = datagrams_in is.done in
-    let more = datagrams_in f.1 in
+pub stops_before : (asked : AskedAudit) (inputs ares : List (Option (List ℕ))) (k : ℕ) (r : ReaderValue) (before after later : Option (List ℕ)) (held : List ℕ) (audit : Option AuditState) (gone : Gone) (s : IntakeValue)
+    → IsAudited asked inputs ares k r before after held audit gone s → Stops after held later [] → BeginsAudit inputs asked before later
+stops_before asked inputs ares k r before after later held audit gone s is stops =
+    let f = part_files inputs ares k r is.done is.reads in
+    let ds = came asked is.done in
+    let more = datagrams_from asked.packets (taken asked is.done) f.rest in
     let seens = seen_from gone.datagrams gone.now more in
-    begins_some asked were before later f.0 f.2 (ds ++ more) (ap datagrams_in f.3 ∙ datagrams-append is.done f.1) is.reports
+    begins_some asked inputs before later f.files f.left (ds ++ more) (ap (datagrams_from asked.packets (nothing_taken asked.packets)) f.came ∙ datagrams-append asked.packets (nothing_taken asked.packets) is.done f.rest) is.reports
     (subst (λ (l : List Seen). TellsSome asked 0 None l is.reports) (sym (seen_more gone ds more is.number is.moment))
     (subst (TellsSome asked 0 None (seen_in ds ++ seens)) (append-nil is.reports) (is.some seens [] (tells_nothing asked gone.now audit seens))))
     (subst (Stops before [] later) (append-nil (report_lines (ds ++ more) is.reports)) (Stops-after before after later [] held (report_lines (ds ++ more) is.reports) [] (is.sends more) stops))
 
 -- where it stops within a datagram
-stops_datagram : (asked : AskedAudit) (r new : ReaderValue) (were are now before after later last : Option (List ℕ)) (held waits : List ℕ) (audit : Option AuditState) (gone : Gone) (d : DatagramValue)
-    → IsAudited asked r were are before after held audit gone → Comes r new are now (Ok (datagram d) ∷ []) → Sends after held later waits []
-    → StopsDatagram asked d audit gone later waits last → BeginsAudit were asked before last
-stops_datagram asked r new were are now before after later last held waits audit gone d is comes sends stops =
-    let f = part_file new were now (is.done ++ Ok (datagram d) ∷ []) (comes_both begin r new were are now is.done (Ok (datagram d) ∷ []) is.comes comes) in
-    let ds = datagrams_in is.done in
-    let more = datagrams_in f.1 in
+stops_datagram : (asked : AskedAudit) (inputs ares step_to : List (Option (List ℕ))) (k : ℕ) (r new : ReaderValue) (now before after later last : Option (List ℕ)) (held waits : List ℕ) (audit : Option AuditState) (gone : Gone) (s : IntakeValue) (found : RecordValue) (arrival : ArrivalValue)
+    → IsAudited asked inputs ares k r before after held audit gone s → k < length ares → IsStep ares step_to k now → Comes r new (left_at ares k) now (Ok found ∷ []) → Sends after held later waits []
+    → arrived asked.packets s found ≡ Some arrival → StopsDatagram asked arrival.datagram audit gone later waits last → BeginsAudit inputs asked before last
+stops_datagram asked inputs ares step_to k r new now before after later last held waits audit gone s found arrival is within step comes sends given stops =
+    let d = arrival.datagram in
+    let items = is.done ++ Ok found ∷ [] in
+    let f = part_files inputs step_to k new items (reads_more inputs ares step_to k r new now is.done (Ok found ∷ []) is.reads within step comes) in
+    let ds = came asked is.done in
+    let more = datagrams_from asked.packets (taken asked items) f.rest in
     let seen = seen_next gone.datagrams gone.now d in
     let others = seen_from (gone.datagrams + 1) (moment_of gone.now d.time) more in
-    let all : datagrams_in (held_of f.0) ≡ ds ++ d ∷ more =
-    ap datagrams_in f.3 ∙ datagrams-append (is.done ++ Ok (datagram d) ∷ []) f.1
-    ∙ ap (λ (l : List DatagramValue). l ++ more) (datagrams-append is.done (Ok (datagram d) ∷ [])) ∙ append_assoc ds (d ∷ []) more in
-    begins_some asked were before last f.0 f.2 (ds ++ d ∷ more) all (is.reports ++ stops.told)
+    let all : datagrams_in asked.packets f.files ≡ ds ++ d ∷ more =
+    ap (datagrams_from asked.packets (nothing_taken asked.packets)) f.came ∙ datagrams-append asked.packets (nothing_taken asked.packets) items f.rest
+    ∙ ap (λ (l : List DatagramValue). l ++ more) (came_more asked is.done s found (Some arrival) is.took given) ∙ append_assoc ds (d ∷ []) more in
+    begins_some asked inputs before last f.files f.left (ds ++ d ∷ more) all (is.reports ++ stops.told)
     (subst (λ (l : List Seen). TellsSome asked 0 None l (is.reports ++ stops.told)) (sym (seen_more gone ds (d ∷ more) is.number is.moment))
     (is.some (seen ∷ others) stops.told (some_heard asked gone.now audit seen others stops.told stops.some)))
     (subst (Stops before [] last) (lines_on (ds ++ d ∷ more) is.reports stops.told)
@@ -369,12 +371,23 @@ stops_datagram asked r new were are now before after later last held waits audit
     (subst (Stops later waits last)
     (some_same (ds ++ d ∷ more) d.time seen (audit_at asked audit seen) stops.told (time_now gone.datagrams ds d more is.number) stops.some) stops.stops)))
 
-pub stops_record : (asked : AskedAudit) (r new : ReaderValue) (were are now before after later last : Option (List ℕ)) (held waits : List ℕ) (audit : Option AuditState) (gone : Gone) (found : RecordValue)
-    → IsAudited asked r were are before after held audit gone → Comes r new are now (Ok found ∷ []) → Sends after held later waits []
-    → StopsRecord asked found audit gone later waits last → BeginsAudit were asked before last
-stops_record asked r new were are now before after later last held waits audit gone (datagram d) is comes sends stops =
-    stops_datagram asked r new were are now before after later last held waits audit gone d is comes sends stops
-stops_record asked r new were are now before after later last held waits audit gone (other kind) is comes sends stops = absurd stops
+pub stops_record : (asked : AskedAudit) (inputs ares step_to : List (Option (List ℕ))) (k : ℕ) (r new : ReaderValue) (now before after later last : Option (List ℕ)) (held waits : List ℕ) (audit : Option AuditState) (gone : Gone) (s : IntakeValue) (found : RecordValue)
+    → IsAudited asked inputs ares k r before after held audit gone s → k < length ares → IsStep ares step_to k now → Comes r new (left_at ares k) now (Ok found ∷ []) → Sends after held later waits []
+    → StopsRecord asked (arrived asked.packets s found) audit gone later waits last → BeginsAudit inputs asked before last
+stops_record asked inputs ares step_to k r new now before after later last held waits audit gone s found is within step comes sends stops =
+    go (arrived asked.packets s found) refl stops
+  where
+    stops_later : (a b c : Option (List ℕ)) (held waits text : List ℕ) → Sends a held b waits [] → Stops b waits c text → Stops a held c text
+    stops_later a b c held waits text sends stops = Stops-after a b c held waits [] text sends stops
+
+    go : (given : Option ArrivalValue) → arrived asked.packets s found ≡ given → StopsRecord asked given audit gone later waits last → BeginsAudit inputs asked before last
+    go (Some arrival) given stops = stops_datagram asked inputs ares step_to k r new now before after later last held waits audit gone s found arrival is within step comes sends given stops
+    go None given stops = stops_before asked inputs ares k r before after last held audit gone s is (stops_later after later last held waits [] sends stops)
+
+-- nothing of a record was printed
+pub record_stops : (asked : AskedAudit) (given : Option ArrivalValue) (audit : Option AuditState) (gone : Gone) (a : Option (List ℕ)) (held : List ℕ) → StopsRecord asked given audit gone a held a
+record_stops asked (Some arrival) audit gone a held = record { told = []; some = inl ([], tt, refl); stops = stops_here a held a held [] (Sends-nil a held) }
+record_stops asked None audit gone a held = stops_here a held a held [] (Sends-nil a held)
 
 -- ---- the whole
 
@@ -405,17 +418,19 @@ text_end ds reports told looked =
     ∙ ap (λ (t : List ℕ). (report_lines ds reports ++ t) ++ summary) (fell_text ds told)
     ∙ ap (λ (t : List ℕ). t ++ summary) (lines_on ds reports (map fell told))
 
--- the datagrams of a file of which no more come
-whole_datagrams : (file : List ℕ) (done items : List Item) → held_of file ≡ done ++ items → datagrams_in items ≡ [] → datagrams_in (held_of file) ≡ datagrams_in done
-whole_datagrams file done items is none =
-    ap datagrams_in is ∙ datagrams-append done items ∙ ap (λ (l : List DatagramValue). datagrams_in done ++ l) none ∙ append-nil (datagrams_in done)
+-- the datagrams of files of which no more come
+whole_datagrams : (asked : AskedAudit) (files : List (List ℕ)) (done items : List Item) → items_of_files files ≡ done ++ items → ((q : IntakeValue) → datagrams_from asked.packets q items ≡ [])
+    → datagrams_in asked.packets files ≡ came asked done
+whole_datagrams asked files done items is none =
+    ap (datagrams_from asked.packets (nothing_taken asked.packets)) is ∙ datagrams-append asked.packets (nothing_taken asked.packets) done items
+    ∙ ap (λ (l : List DatagramValue). came asked done ++ l) (none (taken asked done)) ∙ append-nil (came asked done)
 
 -- what was told before the end
-sent_before : (asked : AskedAudit) (r : ReaderValue) (were are before after later : Option (List ℕ)) (held waits : List ℕ) (audit : Option AuditState) (gone : Gone)
-    (is : IsAudited asked r were are before after held audit gone) → Sends after held later waits [] → Sends before [] later waits (report_lines (datagrams_in is.done) is.reports)
-sent_before asked r were are before after later held waits audit gone is sends =
-    Sends-flush before after later [] held waits (report_lines (datagrams_in is.done) is.reports)
-    (subst (λ (l : List DatagramValue). Sends before [] after held (report_lines l is.reports)) (append-nil (datagrams_in is.done)) (is.sends [])) sends
+sent_before : (asked : AskedAudit) (inputs ares : List (Option (List ℕ))) (k : ℕ) (r : ReaderValue) (before after later : Option (List ℕ)) (held waits : List ℕ) (audit : Option AuditState) (gone : Gone) (s : IntakeValue)
+    (is : IsAudited asked inputs ares k r before after held audit gone s) → Sends after held later waits [] → Sends before [] later waits (report_lines (came asked is.done) is.reports)
+sent_before asked inputs ares k r before after later held waits audit gone s is sends =
+    Sends-flush before after later [] held waits (report_lines (came asked is.done) is.reports)
+    (subst (λ (l : List DatagramValue). Sends before [] after held (report_lines l is.reports)) (append-nil (came asked is.done)) (is.sends [])) sends
 
 -- the text of an audit was sent
 abbrev EndText : AskedAudit → ShownRecording → Option (List ℕ) → Option (List ℕ) → List ℕ → List DatagramValue → Type 0
@@ -423,43 +438,60 @@ EndText asked shown before last rest ds =
     (reports : List Report) × (told : Tells asked 0 None (seen_in ds) reports)
     × Sends before [] last rest (audit_text ds reports (looked_of asked 0 None (seen_in ds) reports told)) × (shown.outcome ≡ fault_outcome (has_findings reports))
 
-pub audit_ends : (asked : AskedAudit) (r new : ReaderValue) (were are now before after later last : Option (List ℕ)) (held waits rest : List ℕ) (audit : Option AuditState) (gone : Gone) (items : List Item) (fault : Option RecordingError) (shown : ShownRecording)
-    → (is : IsAudited asked r were are before after held audit gone) → Comes r new are now items → ((rest : List ℕ) → CanFollow new.is_whole rest → to_come new rest ≡ [])
-    → Sends after held later waits [] → datagrams_in items ≡ [] → left_out_of items ≡ nothing_left_out → fault_among items ≡ fault
-    → PutsEnd gone audit is.reports is.looked later waits last rest shown → shown.fault ≡ fault → shown.left_out ≡ gone.left_out → PutsAudit were asked shown before last rest
-audit_ends asked r new were are now before after later last held waits rest audit gone items fault shown is comes none sends empty uncounted last_is end faulty left =
-    let f = whole_file new were now (is.done ++ items) (comes_both begin r new were are now is.done items is.comes comes) none in
-    let ds = datagrams_in is.done in
+audit_whole : (asked : AskedAudit) (inputs ares : List (Option (List ℕ))) (k : ℕ) (r : ReaderValue) (before after later last : Option (List ℕ)) (held waits rest : List ℕ) (audit : Option AuditState) (gone : Gone) (s : IntakeValue) (items : List Item) (fault : Option FileFault) (shown : ShownRecording)
+    → (is : IsAudited asked inputs ares k r before after held audit gone s) → WholeFiles inputs (is.done ++ items) fault → Sends after held later waits []
+    → ((q : IntakeValue) → datagrams_from asked.packets q items ≡ []) → ((q : IntakeValue) → after_packets asked.packets q items ≡ q)
+    → PutsEnd gone audit is.reports is.looked later waits last rest shown → shown.fault ≡ fault → shown.left_out ≡ left_out_at s → PutsAudit inputs asked shown before last rest
+audit_whole asked inputs ares k r before after later last held waits rest audit gone s items fault shown is f sends empty untaken end faulty left =
+    let ds = came asked is.done in
     let goes = goes_end asked gone.now audit (seen_in ds) is.reports is.looked end.told end.ends is.goes in
-    let text : EndText asked shown before last rest (datagrams_in (held_of f.0)) =
-    subst (EndText asked shown before last rest) (sym (whole_datagrams f.0 is.done items f.2 empty)) (
+    let text : EndText asked shown before last rest (datagrams_in asked.packets f.files) =
+    subst (EndText asked shown before last rest) (sym (whole_datagrams asked f.files is.done items f.came empty)) (
       is.reports ++ map fell end.told,
       goes.0,
       subst (λ l. Sends before [] last rest (audit_text ds (is.reports ++ map fell end.told) l)) (sym goes.1)
           (subst (Sends before [] last rest) (text_end ds is.reports end.told is.looked)
           (Sends-trans before later last [] waits rest (report_lines ds is.reports) (flat_map fell_line end.told ++ summary_text is.looked (is.reports ++ map fell end.told))
-          (sent_before asked r were are before after later held waits audit gone is sends) end.sends)),
+          (sent_before asked inputs ares k r before after later held waits audit gone s is sends) end.sends)),
       end.outcome,
     ) in
     record {
-      file = f.0;
-      left = f.1;
-      ends = faulty ∙ sym (ap fault_among f.2 ∙ fault-append is.done items is.none ∙ last_is);
+      files = f.files;
+      left = f.left;
+      ends = faulty ∙ f.ends;
       reports = text.0;
       told = text.1;
       sends = text.2;
       tells = text.3;
-      counts = left ∙ is.left_out ∙ sym (ap left_out_of f.2 ∙ left_out-append is.done items ∙ ap (plus (left_out_of is.done)) uncounted ∙ plus-nothing (left_out_of is.done));
+      counts = left ∙ ap left_out_at (is.took ∙ sym (ap (after_packets asked.packets (nothing_taken asked.packets)) f.came ∙ after_packets-append asked.packets (nothing_taken asked.packets) is.done items ∙ untaken (taken asked is.done)));
     }
+
+-- no file is left
+whole_end : (asked : AskedAudit) (inputs ares : List (Option (List ℕ))) (k : ℕ) (r : ReaderValue) (done : List Item) → AreRead inputs ares k r done → length ares ≤ k → WholeFiles inputs (done ++ []) None
+whole_end asked inputs ares k r done reads past = subst (λ (l : List Item). WholeFiles inputs l None) (sym (append-nil done)) (reads_all inputs ares k r done reads past)
+
+pub audit_ends : (asked : AskedAudit) (inputs ares : List (Option (List ℕ))) (k : ℕ) (r : ReaderValue) (before after last : Option (List ℕ)) (held rest : List ℕ) (audit : Option AuditState) (gone : Gone) (s : IntakeValue) (shown : ShownRecording)
+    → (is : IsAudited asked inputs ares k r before after held audit gone s) → length ares ≤ k → PutsEnd gone audit is.reports is.looked after held last rest shown → shown.fault ≡ None → shown.left_out ≡ left_out_at s
+    → PutsAudit inputs asked shown before last rest
+audit_ends asked inputs ares k r before after last held rest audit gone s shown is past end faulty left =
+    audit_whole asked inputs ares k r before after after last held held rest audit gone s [] None shown is (whole_end asked inputs ares k r is.done is.reads past) (Sends-nil after held) (λ q. refl) (λ q. refl) end faulty left
+
+pub audit_fault : (asked : AskedAudit) (inputs ares : List (Option (List ℕ))) (k : ℕ) (r new : ReaderValue) (now before after later last : Option (List ℕ)) (held waits rest : List ℕ) (audit : Option AuditState) (gone : Gone) (s : IntakeValue) (fault : RecordingError) (shown : ShownRecording)
+    → (is : IsAudited asked inputs ares k r before after held audit gone s) → k < length ares → Comes r new (left_at ares k) now (Err fault ∷ []) → ((rest : List ℕ) → CanFollow new.is_whole rest → to_come new rest ≡ [])
+    → Sends after held later waits [] → PutsEnd gone audit is.reports is.looked later waits last rest shown → shown.fault ≡ Some (told k fault) → shown.left_out ≡ left_out_at s
+    → PutsAudit inputs asked shown before last rest
+audit_fault asked inputs ares k r new now before after later last held waits rest audit gone s fault shown is within comes none sends end faulty left =
+    audit_whole asked inputs ares k r before after later last held waits rest audit gone s (Err fault ∷ []) (Some (told k fault)) shown is
+    (reads_fault inputs ares k r new now is.done fault is.reads within comes none is.none) sends (λ q. refl) (λ q. refl) end faulty left
 
 -- the text of an audit, of which a beginning was sent
 abbrev StopText : AskedAudit → Option (List ℕ) → Option (List ℕ) → List DatagramValue → Type 0
 StopText asked before last ds =
     (reports : List Report) × (told : Tells asked 0 None (seen_in ds) reports) × Stops before [] last (audit_text ds reports (looked_of asked 0 None (seen_in ds) reports told))
 
-begins_whole : (asked : AskedAudit) (input before last : Option (List ℕ)) (file : List ℕ) → WasLeft input file → StopText asked before last (datagrams_in (held_of file)) → BeginsAudit input asked before last
-begins_whole asked input before last file left text = record {
-  file = file;
+begins_whole : (asked : AskedAudit) (inputs : List (Option (List ℕ))) (before last : Option (List ℕ)) (files : List (List ℕ)) → WereLeft inputs files → StopText asked before last (datagrams_in asked.packets files) → BeginsAudit inputs asked before last
+begins_whole asked inputs before last files left text = record {
+  files = files;
   left = left;
   sent = text.2.sends.sent;
   unsent = text.2.unsent;
@@ -477,45 +509,57 @@ last_stops : (asked : AskedAudit) (now : ℕ) (audit : Option AuditState) (a : O
 last_stops asked now None a held b stops = absurd stops
 last_stops asked now (Some state) a held b stops = record { told = stops.told; some = (stops.told, stops.some, refl); stops = stops.stops }
 
-pub audit_end_stops : (asked : AskedAudit) (r new : ReaderValue) (were are now before after later last : Option (List ℕ)) (held waits : List ℕ) (audit : Option AuditState) (gone : Gone) (items : List Item)
-    → (is : IsAudited asked r were are before after held audit gone) → Comes r new are now items → ((rest : List ℕ) → CanFollow new.is_whole rest → to_come new rest ≡ [])
-    → Sends after held later waits [] → datagrams_in items ≡ [] → StopsEnd gone audit is.reports is.looked later waits last → BeginsAudit were asked before last
-audit_end_stops asked r new were are now before after later last held waits audit gone items is comes none sends empty (inl stops) =
-    let f = whole_file new were now (is.done ++ items) (comes_both begin r new were are now is.done items is.comes comes) none in
-    let ds = datagrams_in is.done in
+whole_stops : (asked : AskedAudit) (inputs ares : List (Option (List ℕ))) (k : ℕ) (r : ReaderValue) (before after later last : Option (List ℕ)) (held waits : List ℕ) (audit : Option AuditState) (gone : Gone) (s : IntakeValue) (items : List Item) (fault : Option FileFault)
+    → (is : IsAudited asked inputs ares k r before after held audit gone s) → WholeFiles inputs (is.done ++ items) fault → Sends after held later waits []
+    → ((q : IntakeValue) → datagrams_from asked.packets q items ≡ []) → StopsEnd gone audit is.reports is.looked later waits last → BeginsAudit inputs asked before last
+whole_stops asked inputs ares k r before after later last held waits audit gone s items fault is f sends empty (inl stops) =
+    let ds = came asked is.done in
     let fallen = last_stops asked gone.now audit later waits last stops in
-    begins_some asked were before last f.0 f.1 ds (whole_datagrams f.0 is.done items f.2 empty) (is.reports ++ map fell fallen.told)
+    begins_some asked inputs before last f.files f.left ds (whole_datagrams asked f.files is.done items f.came empty) (is.reports ++ map fell fallen.told)
     (subst (λ (l : List Seen). TellsSome asked 0 None l (is.reports ++ map fell fallen.told)) (append-nil (seen_in ds)) (is.some [] (map fell fallen.told) fallen.some))
     (subst (Stops before [] last) (ap (λ (t : List ℕ). report_lines ds is.reports ++ t) (fell_text ds fallen.told) ∙ lines_on ds is.reports (map fell fallen.told))
-    (Stops-after before later last [] waits (report_lines ds is.reports) (flat_map fell_line fallen.told) (sent_before asked r were are before after later held waits audit gone is sends) fallen.stops))
-audit_end_stops asked r new were are now before after later last held waits audit gone items is comes none sends empty (inr end) =
-    let f = whole_file new were now (is.done ++ items) (comes_both begin r new were are now is.done items is.comes comes) none in
-    let ds = datagrams_in is.done in
+    (Stops-after before later last [] waits (report_lines ds is.reports) (flat_map fell_line fallen.told) (sent_before asked inputs ares k r before after later held waits audit gone s is sends) fallen.stops))
+whole_stops asked inputs ares k r before after later last held waits audit gone s items fault is f sends empty (inr end) =
+    let ds = came asked is.done in
     let goes = goes_end asked gone.now audit (seen_in ds) is.reports is.looked end.told end.ends is.goes in
-    begins_whole asked were before last f.0 f.1
-    (subst (StopText asked before last) (sym (whole_datagrams f.0 is.done items f.2 empty)) (
+    begins_whole asked inputs before last f.files f.left
+    (subst (StopText asked before last) (sym (whole_datagrams asked f.files is.done items f.came empty)) (
       is.reports ++ map fell end.told,
       goes.0,
       subst (λ l. Stops before [] last (audit_text ds (is.reports ++ map fell end.told) l)) (sym goes.1)
           (subst (Stops before [] last) (text_end ds is.reports end.told is.looked)
           (Stops-after before later last [] waits (report_lines ds is.reports) (flat_map fell_line end.told ++ summary_text is.looked (is.reports ++ map fell end.told))
-          (sent_before asked r were are before after later held waits audit gone is sends) end.stops)),
+          (sent_before asked inputs ares k r before after later held waits audit gone s is sends) end.stops)),
     ))
+
+pub audit_end_stops : (asked : AskedAudit) (inputs ares : List (Option (List ℕ))) (k : ℕ) (r : ReaderValue) (before after last : Option (List ℕ)) (held : List ℕ) (audit : Option AuditState) (gone : Gone) (s : IntakeValue)
+    → (is : IsAudited asked inputs ares k r before after held audit gone s) → length ares ≤ k → StopsEnd gone audit is.reports is.looked after held last → BeginsAudit inputs asked before last
+audit_end_stops asked inputs ares k r before after last held audit gone s is past stops =
+    whole_stops asked inputs ares k r before after after last held held audit gone s [] None is (whole_end asked inputs ares k r is.done is.reads past) (Sends-nil after held) (λ q. refl) stops
+
+pub audit_fault_stops : (asked : AskedAudit) (inputs ares : List (Option (List ℕ))) (k : ℕ) (r new : ReaderValue) (now before after later last : Option (List ℕ)) (held waits : List ℕ) (audit : Option AuditState) (gone : Gone) (s : IntakeValue) (fault : RecordingError)
+    → (is : IsAudited asked inputs ares k r before after held audit gone s) → k < length ares → Comes r new (left_at ares k) now (Err fault ∷ []) → ((rest : List ℕ) → CanFollow new.is_whole rest → to_come new rest ≡ [])
+    → Sends after held later waits [] → StopsEnd gone audit is.reports is.looked later waits last → BeginsAudit inputs asked before last
+audit_fault_stops asked inputs ares k r new now before after later last held waits audit gone s fault is within comes none sends stops =
+    whole_stops asked inputs ares k r before after later last held waits audit gone s (Err fault ∷ []) (Some (told k fault)) is
+    (reads_fault inputs ares k r new now is.done fault is.reads within comes none is.none) sends (λ q. refl) stops
 
 -- ---- what waited in the buffer
 
-pub puts_begun : (asked : AskedAudit) (input before later last : Option (List ℕ)) (waits : List ℕ) (shown : ShownRecording) → PutsAudit input asked shown before later waits
-    → Stops later waits last [] → BeginsAudit input asked before last
-puts_begun asked input before later last waits shown p stops =
-    let text = audit_text (datagrams_in (held_of p.file)) p.reports (looked_of asked 0 None (seen_in (datagrams_in (held_of p.file))) p.reports p.told) in
-    begins_whole asked input before last p.file p.left (p.reports, p.told, Stops-flush before later last [] waits text p.sends stops)
+pub puts_begun : (asked : AskedAudit) (inputs : List (Option (List ℕ))) (before later last : Option (List ℕ)) (waits : List ℕ) (shown : ShownRecording) → PutsAudit inputs asked shown before later waits
+    → Stops later waits last [] → BeginsAudit inputs asked before last
+puts_begun asked inputs before later last waits shown p stops =
+    let ds = datagrams_in asked.packets p.files in
+    let text = audit_text ds p.reports (looked_of asked 0 None (seen_in ds) p.reports p.told) in
+    begins_whole asked inputs before last p.files p.left (p.reports, p.told, Stops-flush before later last [] waits text p.sends stops)
 
-pub puts_shown : (asked : AskedAudit) (input before later last : Option (List ℕ)) (waits new : List ℕ) (shown : ShownRecording) → PutsAudit input asked shown before later waits
-    → Sends later waits last new [] → new ≡ [] → ShowsAudit input asked shown before last
-puts_shown asked input before later last waits new shown p sends empty =
-    let text = audit_text (datagrams_in (held_of p.file)) p.reports (looked_of asked 0 None (seen_in (datagrams_in (held_of p.file))) p.reports p.told) in
+pub puts_shown : (asked : AskedAudit) (inputs : List (Option (List ℕ))) (before later last : Option (List ℕ)) (waits new : List ℕ) (shown : ShownRecording) → PutsAudit inputs asked shown before later waits
+    → Sends later waits last new [] → new ≡ [] → ShowsAudit inputs asked shown before last
+puts_shown asked inputs before later last waits new shown p sends empty =
+    let ds = datagrams_in asked.packets p.files in
+    let text = audit_text ds p.reports (looked_of asked 0 None (seen_in ds) p.reports p.told) in
     record {
-      file = p.file;
+      files = p.files;
       left = p.left;
       ends = p.ends;
       reports = p.reports;

@@ -1,12 +1,15 @@
 -- What an audit tells of the datagrams that come, and of those after them.
-use Rattle.std.proofs.Common.{◌≡◌, ℕ, ◌+◌, ◌-◌, List, [], ◌∷◌, ◌++◌, map, length, Option, Some, None, Ok, Err, refl, sym, ap, ◌∙◌, inl, inr, arith, add-zero, suc}
+use Rattle.std.proofs.Common.{◌≡◌, ℕ, ◌+◌, ◌-◌, List, [], ◌∷◌, ◌++◌, map, length, Option, Some, None, refl, sym, ap, ◌∙◌, inl, inr, arith, add-zero, suc}
 use Rattle.std.specs.Prelude.{◌⊎◌, slice_get, option_and_then}
 use Rattle.std.specs.List.{flat_map}
-use Rattle.std.proofs.lemmas.List.{append-nil}
+use Rattle.std.proofs.lemmas.List.{append-nil, map-append}
 use Rattle.std.proofs.lemmas.Grind.{flat_map-append}
 use Rattle.recording.specs.declared.Time.{Time}
-use Rattle.recording.specs.Packets.{DatagramValue, datagram, other}
+use Rattle.recording.specs.Packets.{DatagramValue}
 use Rattle.recording.specs.Records.{Item}
+use Rattle.recording_packets.specs.Chosen.{ChosenValue}
+use Rattle.recording_packets.specs.Intake.{ArrivalValue, IntakeValue, after_packets, arrivals}
+use Rattle.recording_packets.proofs.IntakeLemmas.{arrivals-append}
 use Rattle.someip_tables.specs.declared.hashed.Origin.{Origin}
 use Rattle.someip_audit.specs.declared.FellDue.{FellDue}
 use Rattle.someip_audit.specs.declared.Finding.{Finding}
@@ -14,16 +17,16 @@ use Rattle.someip_audit.specs.Audits.{AuditState, Hears, Report, Seen, fell, fou
 use Rattle.someipctl_recordings.specs.Moments.{moment_of}
 use Rattle.someipctl_recordings.specs.declared.audit.audits.Gone.{Gone}
 use Rattle.someipctl_recordings.specs.audit.AuditText.{Looked, fell_line, report_line, report_lines, time_of}
-use Rattle.someipctl_recordings.specs.audit.SeenIn.{AskedAudit, AuditsSome, StopsAt, Tells, TellsSome, audit_at, datagrams_in, looked_more, looked_of, none_looked, seen_from, seen_in, seen_next}
+use Rattle.someipctl_recordings.specs.audit.SeenIn.{AskedAudit, AuditsSome, StopsAt, Tells, TellsSome, audit_at, datagrams_from, looked_more, looked_of, none_looked, seen_from, seen_in, seen_next}
 use Rattle.someipctl_recordings.specs.audit.Steps.{line_at}
 
 -- ---- the datagrams
 
-pub datagrams-append : (items others : List Item) → datagrams_in (items ++ others) ≡ datagrams_in items ++ datagrams_in others
-datagrams-append [] others = refl
-datagrams-append (Ok (datagram d) ∷ items) others = ap (λ (l : List DatagramValue). d ∷ l) (datagrams-append items others)
-datagrams-append (Ok (other kind) ∷ items) others = datagrams-append items others
-datagrams-append (Err fault ∷ items) others = datagrams-append items others
+pub datagrams-append : (c : ChosenValue) (s : IntakeValue) (items others : List Item)
+    → datagrams_from c s (items ++ others) ≡ datagrams_from c s items ++ datagrams_from c (after_packets c s items) others
+datagrams-append c s items others =
+    ap (map (λ (a : ArrivalValue). a.datagram)) (arrivals-append c s items others)
+    ∙ map-append (λ (a : ArrivalValue). a.datagram) (arrivals c s items) (arrivals c (after_packets c s items) others)
 
 -- the latest moment of datagrams
 abbrev pub latest : ℕ → List DatagramValue → ℕ

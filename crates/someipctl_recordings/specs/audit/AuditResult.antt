@@ -1,37 +1,46 @@
--- What `audit` does with a recording.
+-- What `audit` does with files.
 use Rattle.std.specs.Prelude.{ℕ, ◌≡◌, ◌⊎◌, Bool, true, false, List, [], ◌∷◌, ◌++◌, Option, None, option_map}
 use Rattle.std.specs.Io.KnownBytes.{Appends}
-use Rattle.recording.specs.HeldItems.{held_of}
+use Rattle.recording_packets.specs.declared.LeftOut.{LeftOut}
+use Rattle.recording_packets.specs.Intake.{after_packets, left_out_at, nothing_taken}
+use Rattle.recording_packets.specs.View.{view_chosen}
 use Rattle.recording.specs.Packets.{DatagramValue}
 use Rattle.someip_audit.specs.Audits.{Report}
-use Rattle.someipctl_io.specs.Inputs.{WasLeft}
 use Rattle.someipctl_io.specs.Outcomes.{fault_outcome}
 use Rattle.someipctl_recordings.specs.declared.recordings.ShownRecording.{ShownRecording}
-use Rattle.someipctl_recordings.specs.LeftOut.{left_out_of}
-use Rattle.someipctl_recordings.specs.RecordingResult.{fault_among}
+use Rattle.someipctl_recordings.specs.Files.{WereLeft, fault_in, items_of_files}
 use Rattle.someipctl_recordings.specs.declared.audit.asked.AuditAsked.{AuditAsked}
 use Rattle.someipctl_recordings.specs.audit.AuditText.{audit_text, report_lines}
 use Rattle.someipctl_recordings.specs.audit.SeenIn.{AskedAudit, Tells, TellsSome, datagrams_in, looked_of, seen_in}
 
 -- what is asked, by the program's values
 abbrev pub view_asked : AuditAsked → AskedAudit
-view_asked asked = record { rules = asked.rules; ports = option_map (λ ports. ports.now) asked.ports }
+view_asked asked = record {
+  rules = asked.rules;
+  ports = option_map (λ ports. ports.now) asked.ports;
+  packets = view_chosen asked.packets;
+}
+
+-- how many packets of the files give no datagram, of those that are looked at
+abbrev pub left_out_in : AskedAudit → List (List ℕ) → LeftOut
+left_out_in asked files = left_out_at (after_packets asked.packets (nothing_taken asked.packets) (items_of_files files))
 
 -- there are findings among reports
 abbrev pub has_findings : List Report → Bool
 has_findings [] = false
 has_findings (report ∷ reports) = true
 
--- the audit of a recording was written, up to its fault, and what is told of the recording is so
-pub record ShowsAudit (input : Option (List ℕ)) (asked : AskedAudit) (shown : ShownRecording) (before after : Option (List ℕ)) : Type 0 where
-  pub file : List ℕ
-  pub left : WasLeft input file
-  pub ends : shown.fault ≡ fault_among (held_of file)
+-- the audit of files was written, up to their fault, and what is told of them is so
+pub record ShowsAudit (inputs : List (Option (List ℕ))) (asked : AskedAudit) (shown : ShownRecording) (before after : Option (List ℕ)) : Type 0 where
+  pub files : List (List ℕ)
+  pub left : WereLeft inputs files
+  pub ends : shown.fault ≡ fault_in files
   pub reports : List Report
-  pub told : Tells asked 0 None (seen_in (datagrams_in (held_of file))) reports
-  pub wrote : Appends before after (audit_text (datagrams_in (held_of file)) reports (looked_of asked 0 None (seen_in (datagrams_in (held_of file))) reports told))
+  pub told : Tells asked 0 None (seen_in (datagrams_in asked.packets files)) reports
+  pub wrote : Appends before after
+      (audit_text (datagrams_in asked.packets files) reports (looked_of asked 0 None (seen_in (datagrams_in asked.packets files)) reports told))
   pub tells : shown.outcome ≡ fault_outcome (has_findings reports)
-  pub counts : shown.left_out ≡ left_out_of (held_of file)
+  pub counts : shown.left_out ≡ left_out_in asked files
 
 -- a text is that of an audit of datagrams, or of a beginning of it, without the summary
 abbrev pub IsAuditText : AskedAudit → List DatagramValue → List ℕ → Type 0
@@ -41,10 +50,10 @@ IsAuditText asked datagrams text =
     × (text ≡ audit_text datagrams reports (looked_of asked 0 None (seen_in datagrams) reports told)))
 
 -- a beginning of that text was written, which may be nothing
-pub record BeginsAudit (input : Option (List ℕ)) (asked : AskedAudit) (before after : Option (List ℕ)) : Type 0 where
-  pub file : List ℕ
-  pub left : WasLeft input file
+pub record BeginsAudit (inputs : List (Option (List ℕ))) (asked : AskedAudit) (before after : Option (List ℕ)) : Type 0 where
+  pub files : List (List ℕ)
+  pub left : WereLeft inputs files
   pub sent : List ℕ
   pub unsent : List ℕ
   pub wrote : Appends before after sent
-  pub beginning : IsAuditText asked (datagrams_in (held_of file)) (sent ++ unsent)
+  pub beginning : IsAuditText asked (datagrams_in asked.packets files) (sent ++ unsent)

@@ -1,21 +1,19 @@
 -- What is printed of a recording, record by record.
 use Rattle.std.specs.Prelude.{◌≡◌, ◌⊎◌, ◌+◌, ℕ, List, [], ◌++◌, map, Option, None, Some}
 use Rattle.std.specs.List.{flat_map}
-use Rattle.recording.specs.HeldItems.{held_of}
-use Rattle.recording.specs.Packets.{DatagramValue, RecordValue, datagram, other}
+use Rattle.recording.specs.Packets.{DatagramValue}
+use Rattle.recording_packets.specs.Intake.{ArrivalValue}
 use Rattle.someip_audit.specs.declared.FellDue.{FellDue}
 use Rattle.someip_audit.specs.Audits.{AuditState, Drains, Report, fell}
-use Rattle.someipctl_io.specs.Inputs.{WasLeft}
 use Rattle.someipctl_io.specs.Outcomes.{fault_outcome}
 use Rattle.someipctl_io.specs.Sending.{Sends, Stops}
 use Rattle.someipctl_recordings.specs.declared.recordings.ShownRecording.{ShownRecording}
-use Rattle.someipctl_recordings.specs.LeftOut.{counted, left_out_of}
 use Rattle.someipctl_recordings.specs.Moments.{moment_of}
-use Rattle.someipctl_recordings.specs.RecordingResult.{fault_among}
+use Rattle.someipctl_recordings.specs.Files.{WereLeft, fault_in}
 use Rattle.someipctl_recordings.specs.declared.audit.audits.Gone.{Gone}
 use Rattle.someipctl_recordings.specs.declared.audit.auditing.SeenDatagram.{SeenDatagram}
 use Rattle.someipctl_recordings.specs.declared.audit.tally.Tally.{Tally}
-use Rattle.someipctl_recordings.specs.audit.AuditResult.{has_findings}
+use Rattle.someipctl_recordings.specs.audit.AuditResult.{has_findings, left_out_in}
 use Rattle.someipctl_recordings.specs.audit.AuditText.{Looked, audit_text, fell_line, summary_text}
 use Rattle.someipctl_recordings.specs.audit.Scenes.{view_seen}
 use Rattle.someipctl_recordings.specs.audit.SeenIn.{AskedAudit, Tells, audit_at, datagrams_in, looked_of, seen_in, seen_next}
@@ -40,23 +38,25 @@ pub record PutsDatagram (asked : AskedAudit) (d : DatagramValue) (before after :
   pub puts : PutsSeen d.time (seen_next gone.datagrams gone.now d) (audit_at asked before (seen_next gone.datagrams gone.now d)) state gone.tally later.tally a held b waits
   pub number : later.datagrams ≡ gone.datagrams + 1
   pub moment : later.now ≡ moment_of gone.now d.time
-  pub left_out : later.left_out ≡ gone.left_out
 
 abbrev pub StopsDatagram : AskedAudit → DatagramValue → Option AuditState → Gone → Option (List ℕ) → List ℕ → Option (List ℕ) → Type 0
 StopsDatagram asked d before gone a held b =
     StopsSeen d.time (seen_next gone.datagrams gone.now d) (audit_at asked before (seen_next gone.datagrams gone.now d)) a held b
 
+-- nothing was printed
+abbrev pub StopsHere : Option (List ℕ) → List ℕ → Option (List ℕ) → Type 0
+StopsHere a held b = Stops a held b []
+
 -- ---- a record
 
--- of one that gives no datagram nothing is told, and it is counted
-abbrev pub PutsRecord : AskedAudit → RecordValue → Option AuditState → Option AuditState → Gone → Gone → Option (List ℕ) → List ℕ → Option (List ℕ) → List ℕ → Type 0
-PutsRecord asked (datagram d) before after gone later a held b waits = PutsDatagram asked d before after gone later a held b waits
-PutsRecord asked (other kind) before after gone later a held b waits =
-    (after ≡ before) × (later ≡ record gone { left_out = counted kind gone.left_out }) × Sends a held b waits []
+-- of one that gives no datagram nothing is told
+abbrev pub PutsRecord : AskedAudit → Option ArrivalValue → Option AuditState → Option AuditState → Gone → Gone → Option (List ℕ) → List ℕ → Option (List ℕ) → List ℕ → Type 0
+PutsRecord asked (Some arrival) before after gone later a held b waits = PutsDatagram asked arrival.datagram before after gone later a held b waits
+PutsRecord asked None before after gone later a held b waits = (after ≡ before) × (later ≡ gone) × Sends a held b waits []
 
-abbrev pub StopsRecord : AskedAudit → RecordValue → Option AuditState → Gone → Option (List ℕ) → List ℕ → Option (List ℕ) → Type 0
-StopsRecord asked (datagram d) before gone a held b = StopsDatagram asked d before gone a held b
-StopsRecord asked (other kind) before gone a held b = ⊥
+abbrev pub StopsRecord : AskedAudit → Option ArrivalValue → Option AuditState → Gone → Option (List ℕ) → List ℕ → Option (List ℕ) → Type 0
+StopsRecord asked (Some arrival) before gone a held b = StopsDatagram asked arrival.datagram before gone a held b
+StopsRecord asked None before gone a held b = StopsHere a held b
 
 -- ---- the end
 
@@ -92,13 +92,14 @@ StopsEnd gone audit reports looked a held b = StopsLast gone.now audit a held b 
 
 -- ---- the whole
 
--- the audit of the recording was printed, of which a part may wait in the buffer
-pub record PutsAudit (input : Option (List ℕ)) (asked : AskedAudit) (shown : ShownRecording) (before after : Option (List ℕ)) (waits : List ℕ) : Type 0 where
-  pub file : List ℕ
-  pub left : WasLeft input file
-  pub ends : shown.fault ≡ fault_among (held_of file)
+-- the audit of the files was printed, of which a part may wait in the buffer
+pub record PutsAudit (inputs : List (Option (List ℕ))) (asked : AskedAudit) (shown : ShownRecording) (before after : Option (List ℕ)) (waits : List ℕ) : Type 0 where
+  pub files : List (List ℕ)
+  pub left : WereLeft inputs files
+  pub ends : shown.fault ≡ fault_in files
   pub reports : List Report
-  pub told : Tells asked 0 None (seen_in (datagrams_in (held_of file))) reports
-  pub sends : Sends before [] after waits (audit_text (datagrams_in (held_of file)) reports (looked_of asked 0 None (seen_in (datagrams_in (held_of file))) reports told))
+  pub told : Tells asked 0 None (seen_in (datagrams_in asked.packets files)) reports
+  pub sends : Sends before [] after waits
+      (audit_text (datagrams_in asked.packets files) reports (looked_of asked 0 None (seen_in (datagrams_in asked.packets files)) reports told))
   pub tells : shown.outcome ≡ fault_outcome (has_findings reports)
-  pub counts : shown.left_out ≡ left_out_of (held_of file)
+  pub counts : shown.left_out ≡ left_out_in asked files

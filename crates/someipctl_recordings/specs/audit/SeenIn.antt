@@ -1,7 +1,10 @@
 -- The datagrams of a recording, as an audit sees them, and what is told of them.
-use Rattle.std.specs.Prelude.{◌≡◌, ◌⊎◌, ⊤, ℕ, ◌+◌, List, [], ◌∷◌, ◌++◌, map, Option, None, Some, Ok, Err}
-use Rattle.recording.specs.Packets.{DatagramValue, datagram, other}
+use Rattle.std.specs.Prelude.{◌≡◌, ◌⊎◌, ⊤, ℕ, ◌+◌, List, [], ◌∷◌, ◌++◌, map, Option, None, Some}
+use Rattle.recording.specs.Packets.{DatagramValue}
 use Rattle.recording.specs.Records.{Item}
+use Rattle.recording_packets.specs.Chosen.{ChosenValue}
+use Rattle.recording_packets.specs.Intake.{ArrivalValue, IntakeValue, arrivals, nothing_taken}
+use Rattle.someipctl_recordings.specs.Files.{items_of_files}
 use Rattle.someip_audit.specs.declared.AuditRules.{AuditRules}
 use Rattle.someip_audit.specs.declared.FellDue.{FellDue}
 use Rattle.someip_audit.specs.Audits.{AuditState, Audits, Hears, IsNext, Report, Seen, audit_begun, fell, seen_messages}
@@ -12,12 +15,13 @@ use Rattle.someipctl_recordings.specs.audit.AuditText.{Looked}
 
 -- ---- the datagrams of a recording
 
--- those of its records, in order
-abbrev pub datagrams_in : List Item → List DatagramValue
-datagrams_in [] = []
-datagrams_in (Ok (datagram d) ∷ items) = d ∷ datagrams_in items
-datagrams_in (Ok (other kind) ∷ items) = datagrams_in items
-datagrams_in (Err fault ∷ items) = datagrams_in items
+-- those that items give, in order, where these packets came before
+abbrev pub datagrams_from : ChosenValue → IntakeValue → List Item → List DatagramValue
+datagrams_from c s items = map (λ (a : ArrivalValue). a.datagram) (arrivals c s items)
+
+-- those of files
+abbrev pub datagrams_in : ChosenValue → List (List ℕ) → List DatagramValue
+datagrams_in c files = datagrams_from c (nothing_taken c) (items_of_files files)
 
 -- one of them as an audit sees it: its moment, its number, counted from 1, its endpoints, and its bytes. So many came before
 -- it, the latest at this moment
@@ -37,10 +41,11 @@ seen_in datagrams = seen_from 0 0 datagrams
 
 -- ---- what is told of them
 
--- what an audit goes by: its settings, and the ports that are named, if they are
+-- what an audit goes by: its settings, the ports that are named, if they are, and which packets are looked at
 pub record AskedAudit : Type 0 where
   pub rules : AuditRules
   pub ports : Option (List ℕ)
+  pub packets : ChosenValue
 
 -- the audit at a datagram: it begins with the first
 abbrev pub audit_at : AskedAudit → Option AuditState → Seen → AuditState

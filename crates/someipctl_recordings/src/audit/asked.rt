@@ -1,4 +1,5 @@
 //! What an audit goes by.
+use recording_packets::ChosenPackets;
 use someip_audit::AuditRules;
 
 /// What an audit goes by.
@@ -9,4 +10,6 @@ pub struct AuditAsked<'a> {
     /// The ports that are looked at beside that of Service Discovery. None looks at the endpoints that
     /// Offers and Subscribes named so far.
     pub ports: Option<&'a [u16]>,
+    /// Which packets are looked at.
+    pub packets: ChosenPackets<'a>,
 }

@@ -1,5 +1,6 @@
 //! What is printed of one datagram, and of what falls due before it.
-ghost use Rattle.std.specs.Prelude.{OnErr, OnOk, map};
+ghost use Rattle.std.specs.Prelude.{◌≡◌, IfErr, OnErr, OnOk, map};
+ghost use Rattle.someipctl_io.specs.declared.Fault.TheVariants.{CannotRead};
 ghost use Rattle.std.specs.List.{flat_map};
 ghost use Rattle.someip_audit.specs.Audits.{found};
 ghost use Rattle.someipctl_io.specs.Sending.{Sends, Stops};
@@ -67,6 +68,7 @@ pub(crate) fn put_due<S: Reassembly + Drop, W: Write>(
         (W.contents writer.old) buffer.old (W.contents writer.new) buffer.new) }
     ensures stops { OnErr result (StopsDue now audit.old
         (W.contents writer.old) buffer.old (W.contents writer.new)) }
+    ensures read { IfErr result (λ fault. fault ≡ CannotRead → ⊥) }
 {
     loop {
         let Some(told) = audit.due(now) else {

@@ -2,10 +2,11 @@
 //!
 //! K counts all datagrams of the recording, looked at or not, as `recording FILE` without a selection
 //! counts them, so that a line can be found in both; the summary counts those that were looked at.
-ghost use Rattle.std.specs.Prelude.{◌≡◌, ◌<◌, ◌+◌, ◌^◌, [], IfOk, List, None, OnErr, OnOk, Some};
+ghost use Rattle.std.specs.Prelude.{◌≡◌, ◌≤◌, ◌<◌, ◌+◌, ◌^◌, [], IfErr, IfOk, List, None, OnErr, OnOk, Some, length, map};
+ghost use Rattle.someipctl_io.specs.declared.Fault.TheVariants.{CannotRead};
 ghost use Rattle.recording.specs.View.{view_datagram, view_record};
 ghost use Rattle.someip_audit.specs.Audits.{Report};
-ghost use Rattle.someipctl_recordings.specs.LeftOut.{nothing_left_out, total};
+ghost use Rattle.recording_packets.specs.Intake.{after_packet, arrived};
 ghost use Rattle.someipctl_recordings.specs.Moments.{moment_of};
 ghost use Rattle.someipctl_recordings.specs.audit.AuditResult.{BeginsAudit, ShowsAudit, view_asked};
 ghost use Rattle.someipctl_recordings.specs.audit.AuditText.{Looked};
@@ -22,8 +23,9 @@ use crate::audit::tally::Tally;
 use crate::moments::moment_of;
 use crate::read_loop::{Coming, next_coming};
 use crate::reassembly::socket_of;
-use crate::{LeftOut, ShownRecording};
-use recording::{Datagram, Record, RecordingError, RecordingReader, Time};
+use crate::{FileFault, ShownRecording, StoppedAt};
+use recording::{Datagram, Record, RecordingReader, Time};
+use recording_packets::{Intake, LeftOut};
 use someip_audit::{Audit, Finding};
 use someip_reassembly::Reassembly;
 use someip_tables::Moment;
@@ -52,113 +54,146 @@ pub(crate) struct Gone {
     pub(crate) now: Moment,
     /// What was counted.
     pub(crate) tally: Tally,
-    /// The packets that give no datagram.
-    pub(crate) left_out: LeftOut,
 }
 
-/// Writes what a recording shows against the protocol, as it is read: a line for each finding, and then the
-/// summary. The body `S` puts messages together from their segments. What waits to be written is written
+/// Writes what recordings show against the protocol, as they are read, one after the other as one recording:
+/// a line for each finding, and then the summary. The body `S` puts messages together from their segments. What waits to be written is written
 /// before each read.
 ///
-/// One packet or block of the recording is held at a time, and what the books of the audit hold.
+/// One packet or block of a recording is held at a time, and what the books of the audit hold.
 pub fn show_audit<S: Reassembly + Drop, R: Read, W: Write>(
     alloc: Global,
-    source: &mut R,
+    sources: &mut [R],
     asked: &AuditAsked<'_>,
     writer: &mut W,
-) -> Result<ShownRecording, Fault<Infallible>>
-    // The text of the audit of what comes before the recording's fault was written, or of all of it, and what
-    // is told of the recording is so: its outcome says whether there are findings.
-    ensures shown { IfOk result (λ shown. ShowsAudit (R.remaining source.old) (view_asked asked.now)
+) -> Result<ShownRecording, StoppedAt>
+    // The text of the audit of what comes before the fault was written, or of all, and what is told is so: its
+    // outcome says whether there are findings.
+    ensures shown { IfOk result (λ shown. ShowsAudit (map R.remaining sources.old) (view_asked asked.now)
         shown (W.contents writer.old) (W.contents writer.new)) }
     // Else a beginning of that text was.
-    ensures begun { OnErr result (BeginsAudit (R.remaining source.old) (view_asked asked.now)
+    ensures begun { OnErr result (BeginsAudit (map R.remaining sources.old) (view_asked asked.now)
         (W.contents writer.old) (W.contents writer.new)) }
+    // Only one of the files can be a file that could not be read.
+    ensures unread { IfErr result (λ stopped. stopped.fault ≡ CannotRead → stopped.file < length sources.old) }
 {
-    let mut buffer = Buffer::new(alloc)?;
-    let shown = put_from_start::<S, R, W>(alloc, source, asked, &mut buffer, writer)?;
-    buffer.flush(writer)?;
-    Ok(shown)
+    let mut file = 0;
+    match show_files::<S, R, W>(alloc, sources, asked, &mut file, writer) {
+        Ok(shown) => Ok(shown),
+        Err(fault) => Err(StoppedAt { file, fault }),
+    }
 }
 
-/// Prints the audit of a recording, from before its first datagram.
-fn put_from_start<S: Reassembly + Drop, R: Read, W: Write>(
+/// The same, which tells the number of the file at which it stopped.
+fn show_files<S: Reassembly + Drop, R: Read, W: Write>(
     alloc: Global,
-    source: &mut R,
+    sources: &mut [R],
     asked: &AuditAsked<'_>,
-    buffer: &mut Buffer,
+    file: &mut usize,
     writer: &mut W,
 ) -> Result<ShownRecording, Fault<Infallible>>
-    requires empty { buffer.old ≡ [] }
-    ensures puts { IfOk result (λ shown. PutsAudit (R.remaining source.old) (view_asked asked.now)
-        shown (W.contents writer.old) (W.contents writer.new) buffer.new) }
-    ensures begun { OnErr result (BeginsAudit (R.remaining source.old) (view_asked asked.now)
+    requires first { file.old ≡ 0 }
+    ensures shown { IfOk result (λ shown. ShowsAudit (map R.remaining sources.old) (view_asked asked.now)
+        shown (W.contents writer.old) (W.contents writer.new)) }
+    ensures begun { OnErr result (BeginsAudit (map R.remaining sources.old) (view_asked asked.now)
         (W.contents writer.old) (W.contents writer.new)) }
+    ensures unread { IfErr result (λ fault. fault ≡ CannotRead → file.new < length sources.old) }
 {
+    let mut buffer = Buffer::new(alloc)?;
     let mut auditing = Auditing::<S> {
         alloc,
         audit: None,
         findings: Vec::new(alloc),
     };
-    put_audit(source, asked, &mut auditing, buffer, writer)
+    let shown = put_audit(sources, asked, file, &mut auditing, &mut buffer, writer)?;
+    buffer.flush(writer)?;
+    Ok(shown)
 }
 
-/// Prints the audit of a recording.
+/// Prints the audit of files, one after the other.
 fn put_audit<S: Reassembly + Drop, R: Read, W: Write>(
-    source: &mut R,
+    sources: &mut [R],
     asked: &AuditAsked<'_>,
+    file: &mut usize,
     auditing: &mut Auditing<S>,
     buffer: &mut Buffer,
     writer: &mut W,
 ) -> Result<ShownRecording, Fault<Infallible>>
+    requires first { file.old ≡ 0 }
     requires empty { buffer.old ≡ [] }
     requires begun { auditing.old.audit ≡ None }
-    ensures puts { IfOk result (λ shown. PutsAudit (R.remaining source.old) (view_asked asked.now)
+    ensures puts { IfOk result (λ shown. PutsAudit (map R.remaining sources.old) (view_asked asked.now)
         shown (W.contents writer.old) (W.contents writer.new) buffer.new) }
-    ensures begun { OnErr result (BeginsAudit (R.remaining source.old) (view_asked asked.now)
+    ensures begun { OnErr result (BeginsAudit (map R.remaining sources.old) (view_asked asked.now)
         (W.contents writer.old) (W.contents writer.new)) }
+    ensures unread { IfErr result (λ fault. fault ≡ CannotRead → file.new < length sources.old) }
 {
-    let mut recording = RecordingReader::new(auditing.alloc);
+    let alloc = auditing.alloc;
+    let mut intake = Intake::new(alloc, &asked.packets);
+    let mut recording = RecordingReader::new(alloc);
     let mut gone = Gone::nothing();
-    loop {
-        let coming = next_coming(&mut recording, source, buffer, writer)?;
+    while *file < sources.len() {
+        let coming = next_coming(&mut recording, &mut sources[*file], buffer, writer)?;
         match coming {
             Coming::Record => {}
             Coming::Fault(fault) => {
-                return put_end(buffer, writer, auditing, &mut gone, Some(fault));
+                let fault = Some(FileFault { file: *file, fault });
+                return put_end(
+                    buffer,
+                    writer,
+                    auditing,
+                    &mut gone,
+                    intake.left_out(),
+                    fault,
+                );
             }
-            Coming::End => return put_end(buffer, writer, auditing, &mut gone, None),
+            Coming::End => {
+                recording = RecordingReader::new(alloc);
+                *file += 1;
+                continue;
+            }
         }
         if let Some(found) = recording.record() {
-            put_record(buffer, writer, asked, &found, auditing, &mut gone)?;
+            put_record(
+                buffer,
+                writer,
+                asked,
+                &found,
+                &mut intake,
+                auditing,
+                &mut gone,
+            )?;
         }
     }
+    put_end(buffer, writer, auditing, &mut gone, intake.left_out(), None)
 }
 
-/// Prints what is told of a record, and counts it.
+/// Takes a record, and prints what is told of its datagram, if it gives one.
 fn put_record<S: Reassembly + Drop, W: Write>(
     buffer: &mut Buffer,
     writer: &mut W,
     asked: &AuditAsked<'_>,
     found: &Record<'_>,
+    intake: &mut Intake,
     auditing: &mut Auditing<S>,
     gone: &mut Gone,
 ) -> Result<(), Fault<Infallible>>
-    requires few { gone.old.datagrams + total gone.old.left_out + 1 < 2 ^ 64 }
-    ensures puts { OnOk result (PutsRecord (view_asked asked.now) (view_record found.now)
+    requires few { gone.old.datagrams ≤ intake.old.frames }
+    ensures puts { OnOk result (PutsRecord (view_asked asked.now)
+        (arrived (view_asked asked.now).packets intake.old (view_record found.now))
         auditing.old.audit auditing.new.audit gone.old gone.new
         (W.contents writer.old) buffer.old (W.contents writer.new) buffer.new) }
-    ensures stops { OnErr result (StopsRecord (view_asked asked.now) (view_record found.now)
+    ensures took { OnOk result (intake.new
+        ≡ after_packet (view_asked asked.now).packets intake.old (view_record found.now)) }
+    ensures few { OnOk result (gone.new.datagrams ≤ intake.new.frames) }
+    ensures stops { OnErr result (StopsRecord (view_asked asked.now)
+        (arrived (view_asked asked.now).packets intake.old (view_record found.now))
         auditing.old.audit gone.old (W.contents writer.old) buffer.old (W.contents writer.new)) }
 {
-    match found {
-        Record::Datagram(datagram) => {
-            put_datagram(buffer, writer, asked, datagram, auditing, gone)
-        }
-        Record::Other(kind) => {
-            gone.left_out.add(*kind);
-            Ok(())
-        }
+    let taken = intake.take(&asked.packets, found)?;
+    match intake.arrival(taken) {
+        Some(arrival) => put_datagram(buffer, writer, asked, &arrival.datagram, auditing, gone),
+        None => Ok(()),
     }
 }
 
@@ -261,7 +296,8 @@ fn put_end<S: Reassembly + Drop, W: Write>(
     writer: &mut W,
     auditing: &mut Auditing<S>,
     gone: &mut Gone,
-    fault: Option<RecordingError>,
+    left_out: LeftOut,
+    fault: Option<FileFault>,
 ) -> Result<ShownRecording, Fault<Infallible>>
     ensures puts { (reports : List Report) (looked : Looked) → Counts gone.old.tally reports looked
         → IfOk result (PutsEnd gone.old auditing.old.audit reports looked
@@ -270,7 +306,8 @@ fn put_end<S: Reassembly + Drop, W: Write>(
         → OnErr result (StopsEnd gone.old auditing.old.audit reports looked
         (W.contents writer.old) buffer.old (W.contents writer.new)) }
     ensures fault { IfOk result (λ shown. shown.fault ≡ fault) }
-    ensures left_out { IfOk result (λ shown. shown.left_out ≡ gone.old.left_out) }
+    ensures left_out { IfOk result (λ shown. shown.left_out ≡ left_out) }
+    ensures read { IfErr result (λ fault. fault ≡ CannotRead → ⊥) }
 {
     put_last(
         buffer,
@@ -282,7 +319,7 @@ fn put_end<S: Reassembly + Drop, W: Write>(
     put_summary(buffer, writer, &gone.tally)?;
     Ok(ShownRecording {
         outcome: Outcome::of(gone.tally.findings > 0),
-        left_out: gone.left_out,
+        left_out,
         fault,
     })
 }
@@ -299,6 +336,7 @@ fn put_last<S: Reassembly + Drop, W: Write>(
         (W.contents writer.old) buffer.old (W.contents writer.new) buffer.new) }
     ensures stops { OnErr result (StopsLast now audit.old
         (W.contents writer.old) buffer.old (W.contents writer.new)) }
+    ensures read { IfErr result (λ fault. fault ≡ CannotRead → ⊥) }
 {
     match audit {
         Some(audit) => put_due(buffer, writer, audit, now, tally),
@@ -312,13 +350,11 @@ impl Gone {
         ensures counts { Counts result.tally [] none_looked }
         ensures datagrams { result.datagrams ≡ 0 }
         ensures now { result.now ≡ 0 }
-        ensures left_out { result.left_out ≡ nothing_left_out }
     {
         Gone {
             datagrams: 0,
             now: Moment::start(),
             tally: Tally::new(),
-            left_out: LeftOut::new(),
         }
     }
 }

@@ -1,13 +1,92 @@
 //! Calls of the program, and the commands that they come to. Words that come to none are rows of the sweep `texts`.
-use Command::{Chart, Payload, Recording, Run, Show, Vectors};
-use someipctl_cli::{Command, RecordingOptions};
+use Call::{Chart, Payload, Run, Show, Vectors};
+use someipctl_cli::{ChoiceOptions, Command, PacketOptions, RecordingOptions};
+
+/// A command that owns no memory.
+pub enum Call {
+    Vectors {
+        file: &'static str,
+    },
+    Run {
+        setup: &'static str,
+        schedule: &'static str,
+        expect: Option<&'static str>,
+        begins: Option<&'static str>,
+        lines: bool,
+    },
+    Show {
+        capture: &'static str,
+        service: Option<&'static str>,
+        types: Option<&'static str>,
+    },
+    Payload {
+        shape: &'static str,
+        hex: &'static str,
+    },
+    Chart {
+        setup: &'static str,
+        schedule: &'static str,
+    },
+}
+
+impl Call {
+    /// The command itself.
+    pub fn command(&self) -> Command<'static> {
+        match self {
+            Vectors { file } => Command::Vectors { file },
+            Run {
+                setup,
+                schedule,
+                expect,
+                begins,
+                lines,
+            } => Command::Run {
+                setup,
+                schedule,
+                expect: *expect,
+                begins: *begins,
+                lines: *lines,
+            },
+            Show {
+                capture,
+                service,
+                types,
+            } => Command::Show {
+                capture,
+                service: *service,
+                types: *types,
+            },
+            Payload { shape, hex } => Command::Payload { shape, hex },
+            Chart { setup, schedule } => Command::Chart { setup, schedule },
+        }
+    }
+}
 
 /// Words with `|` between them, and the command that they come to.
-pub type Row = (&'static str, Command<'static>);
+pub type Row = (&'static str, Call);
 
-/// What is asked for of a recording without options.
+/// Words with `|` between them, and the files and the options of the recordings that they ask for.
+pub type RecordingRow = (
+    &'static str,
+    &'static [&'static str],
+    RecordingOptions<'static>,
+);
+
+/// What is asked for of recordings without options.
 const NO_OPTIONS: RecordingOptions<'static> = RecordingOptions {
+    packets: PacketOptions {
+        interface: None,
+        vlan: None,
+        dedup: None,
+    },
+    choice: ChoiceOptions {
+        address: None,
+        client: None,
+        from: None,
+        until: None,
+    },
     ports: None,
+    frames: false,
     endpoints: false,
     service: None,
     types: None,
@@ -16,6 +95,76 @@ const NO_OPTIONS: RecordingOptions<'static> = RecordingOptions {
     slots: None,
     timeout: None,
 };
+
+/// Calls of `recording`.
+pub const RECORDINGS: &[RecordingRow] = &[
+    ("someipctl|recording|x", &["x"], NO_OPTIONS),
+    ("someipctl|recording|x|-|y", &["x", "-", "y"], NO_OPTIONS),
+    (
+        "someipctl|recording|--endpoints|--ports|1,2|x",
+        &["x"],
+        RecordingOptions {
+            ports: Some("1,2"),
+            endpoints: true,
+            ..NO_OPTIONS
+        },
+    ),
+    (
+        "someipctl|recording|x|--ports=",
+        &["x"],
+        RecordingOptions {
+            ports: Some(""),
+            ..NO_OPTIONS
+        },
+    ),
+    (
+        "someipctl|recording|--service|1111|--types|t|--whole|--whole-limit|1400|--whole-slots|2|--whole-timeout|3|x",
+        &["x"],
+        RecordingOptions {
+            service: Some("1111"),
+            types: Some("t"),
+            whole: true,
+            limit: Some("1400"),
+            slots: Some("2"),
+            timeout: Some("3"),
+            ..NO_OPTIONS
+        },
+    ),
+    (
+        "someipctl|recording|--interface|0,1|--vlan|5|x|--dedup|10|--frames|y",
+        &["x", "y"],
+        RecordingOptions {
+            packets: PacketOptions {
+                interface: Some("0,1"),
+                vlan: Some("5"),
+                dedup: Some("10"),
+            },
+            frames: true,
+            ..NO_OPTIONS
+        },
+    ),
+    (
+        "someipctl|recording|--address|1.2.3.4|--client=0101|--from|1|--until|2.5|x",
+        &["x"],
+        RecordingOptions {
+            choice: ChoiceOptions {
+                address: Some("1.2.3.4"),
+                client: Some("0101"),
+                from: Some("1"),
+                until: Some("2.5"),
+            },
+            ..NO_OPTIONS
+        },
+    ),
+    (
+        "someipctl|recording|x|--whole-timeout=",
+        &["x"],
+        RecordingOptions {
+            timeout: Some(""),
+            ..NO_OPTIONS
+        },
+    ),
+];
 
 /// Calls of the commands that read a file.
 pub const ROWS: &[Row] = &[
@@ -49,60 +198,6 @@ pub const ROWS: &[Row] = &[
             expect: None,
             begins: Some("t"),
             lines: false,
-        },
-    ),
-    (
-        "someipctl|recording|x",
-        Recording {
-            file: "x",
-            options: NO_OPTIONS,
-        },
-    ),
-    (
-        "someipctl|recording|--endpoints|--ports|1,2|x",
-        Recording {
-            file: "x",
-            options: RecordingOptions {
-                ports: Some("1,2"),
-                endpoints: true,
-                ..NO_OPTIONS
-            },
-        },
-    ),
-    (
-        "someipctl|recording|x|--ports=",
-        Recording {
-            file: "x",
-            options: RecordingOptions {
-                ports: Some(""),
-                ..NO_OPTIONS
-            },
-        },
-    ),
-    (
-        "someipctl|recording|--service|1111|--types|t|--whole|--whole-limit|1400|--whole-slots|2|--whole-timeout|3|x",
-        Recording {
-            file: "x",
-            options: RecordingOptions {
-                ports: None,
-                endpoints: false,
-                service: Some("1111"),
-                types: Some("t"),
-                whole: true,
-                limit: Some("1400"),
-                slots: Some("2"),
-                timeout: Some("3"),
-            },
-        },
-    ),
-    (
-        "someipctl|recording|x|--whole-timeout=",
-        Recording {
-            file: "x",
-            options: RecordingOptions {
-                timeout: Some(""),
-                ..NO_OPTIONS
-            },
         },
     ),
     (

@@ -3,21 +3,30 @@
 use crate::printed::is_printed;
 use crate::showing::show_endpoints;
 use crate::slow::{Limits, SlowReader, SlowWriter, UNLIMITED};
+use recording_packets::LeftOut;
 use someipctl_io::{Fault, Outcome};
-use someipctl_recordings::LeftOut;
+use someipctl_recordings::{FileFault, StoppedAt};
 use std::alloc::Global;
 use std::io::ErrorKind;
 
 /// Counts, in the order of the kinds, and what is told of them.
-type Row = ([usize; 6], &'static str);
+type Row = ([usize; 8], &'static str);
 
 const ROWS: &[Row] = &[
-    ([1, 0, 0, 0, 0, 0], "left out 1 of another link type"),
-    ([0, 2, 0, 0, 0, 0], "left out 2 not IPv4"),
-    ([0, 0, 3, 0, 2, 0], "left out 3 fragmented, 2 cut short"),
+    ([1, 0, 0, 0, 0, 0, 0, 0], "left out 1 of another link type"),
+    ([0, 2, 0, 0, 0, 0, 0, 0], "left out 2 not IPv4"),
     (
-        [1, 2, 3, 4, 5, 60],
-        "left out 1 of another link type, 2 not IPv4, 3 fragmented, 4 not UDP, 5 cut short, 60 with a bad UDP length",
+        [0, 0, 3, 2, 0, 0, 1, 0],
+        "left out 3 not UDP, 2 cut short, 1 fragments without the rest",
+    ),
+    (
+        [0, 0, 0, 0, 0, 7, 0, 2],
+        "left out 7 copies, 2 fragments that differ",
+    ),
+    (
+        [1, 2, 4, 5, 60, 7, 8, 9],
+        "left out 1 of another link type, 2 not IPv4, 4 not UDP, 5 cut short, 60 with a bad UDP length, \
+         7 copies, 8 fragments without the rest, 9 fragments that differ",
     ),
 ];
 
@@ -26,18 +35,22 @@ fn is_row(alloc: Global, (counts, text): &Row) -> bool {
     let [
         link_type,
         not_ipv4,
-        fragmented,
         not_udp,
         cut,
         bad_udp_length,
+        copies,
+        without_rest,
+        that_differ,
     ] = *counts;
     let left_out = LeftOut {
         link_type,
         not_ipv4,
-        fragmented,
         not_udp,
         cut,
         bad_udp_length,
+        copies,
+        fragments_without_rest: without_rest,
+        fragments_that_differ: that_differ,
     };
     !left_out.is_empty() && is_printed(alloc, &left_out, text) == Some(true)
 }
@@ -66,8 +79,7 @@ fn is_written(alloc: Global, fails_at: usize) -> bool {
         takes_nothing: false,
     };
     let mut writer = SlowWriter::new(alloc, limits);
-    let mut file = FILE;
-    let shown = show_endpoints(alloc, &mut file, Some(&[10]), &mut writer);
+    let shown = show_endpoints(alloc, &mut [FILE], Some(&[10]), &mut writer);
     let taken = writer.taken.as_slice();
     match shown {
         Ok(shown) => {
@@ -76,7 +88,12 @@ fn is_written(alloc: Global, fails_at: usize) -> bool {
                 && matches!(shown.outcome, Outcome::Done)
                 && shown.fault.is_none()
         }
-        Err(Fault::CannotWrite) => taken.len() == fails_at && TEXT.starts_with(taken),
+        Err(
+            StoppedAt {
+                fault: Fault::CannotWrite,
+                ..
+            },
+        ) => taken.len() == fails_at && TEXT.starts_with(taken),
         Err(_) => false,
     }
 }
@@ -90,10 +107,14 @@ fn recordings_are_written_as_far_as_the_writer_takes_them(rt: HostRuntime) {
 
 /// Whether this was written of the recording before its read of this number, of a byte each, failed.
 fn is_written_before(alloc: Global, fails_at: usize, text: &[u8]) -> bool {
-    let mut reader = SlowReader::new(FILE, fails_at, ErrorKind::Other);
+    let reader = SlowReader::new(FILE, fails_at, ErrorKind::Other);
     let mut writer = SlowWriter::new(alloc, UNLIMITED);
-    let shown = show_endpoints(alloc, &mut reader, None, &mut writer);
-    matches!(shown, Err(Fault::CannotRead)) && writer.taken.as_slice() == text
+    let shown = show_endpoints(alloc, &mut [reader], None, &mut writer);
+    let unread = StoppedAt {
+        file: 0,
+        fault: Fault::CannotRead,
+    };
+    shown == Err(unread) && writer.taken.as_slice() == text
 }
 
 #[test]

@@ -4,7 +4,7 @@ use others::{ASKED, CROWDED, FILTERED, REFUSED};
 use packets::recording_of;
 use rows::{ROWS, Row, STANDING, UNTIMED};
 use someip_tp::{IntervalPool, Reassembly, SegmentList};
-use someipctl_recordings::{Asked, show_recording};
+use someipctl_recordings::{Asked, Heads, Wanted, show_recording};
 use someipctl_show::types::MessageTypes;
 use std::alloc::{AllocError, Global};
 
@@ -30,18 +30,24 @@ fn shows<S: Reassembly + Drop>(
     alloc: Global,
     row: &Row,
     types: &MessageTypes,
-    mut file: &[u8],
+    file: &[u8],
     text: &str,
 ) -> bool {
     let asked = Asked {
-        ports: row.ports,
-        services: row.services,
+        wanted: Wanted {
+            ports: row.ports,
+            services: row.services,
+            ..Wanted::all()
+        },
         types,
-        endpoints: row.endpoints,
+        heads: Heads {
+            frame: false,
+            endpoints: row.endpoints,
+        },
         whole: row.whole,
     };
     let mut writer = SlowWriter::new(alloc, UNLIMITED);
-    match show_recording::<S, _, _>(alloc, &mut file, &asked, &mut writer) {
+    match show_recording::<S, _, _>(alloc, &mut [file], &asked, &mut writer) {
         Ok(shown) => {
             shown.outcome == row.outcome
                 && shown.fault.is_none()

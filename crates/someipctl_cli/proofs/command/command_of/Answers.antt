@@ -6,7 +6,8 @@ use Rattle.someipctl_cli.proofs.command.command_of.Goals as goal
 pub unreachable-requires : goal.unreachable-requires
 unreachable-requires g c =
     let parse = c.in-Ok.ensures in
-    parsed_some _ (map g.S.AsStr.text c.args.words.now) c.in-Ok.matches c.in_ok-definition.ensures parse.matches parse.kinds c.in-None.ensures
+    parsed_some _ (map g.S.AsStr.text c.args.words.now) c.in-Ok.matches c.in_ok-definition.ensures parse.matches parse.kinds
+    (ap (option_map asked_by_command) (sym c.in-None.is) ∙ c.in_ok-command.ensures)
 
 pub returns-clause-taken : goal.returns-clause-taken
 returns-clause-taken g c =
@@ -16,7 +17,8 @@ returns-clause-taken g c =
 pub returns-clause-matched : goal.returns-clause-matched
 returns-clause-matched g c =
     let parse = c.in-Ok.ensures in
-    sym (parsed_asks _ (map g.S.AsStr.text c.args.words.now) c.in-Ok.matches c.in_ok-definition.ensures parse.matches parse.kinds).0 ∙ sym c.matched.ensures ∙ ap (option_map asked_by_command) c.in-Some.is
+    sym (parsed_asks _ (map g.S.AsStr.text c.args.words.now) c.in-Ok.matches c.in_ok-definition.ensures parse.matches parse.kinds).0 ∙ sym c.in_ok-command.ensures
+    ∙ ap (option_map asked_by_command) c.in-Some.is
 
 pub returns-in-Err-clause-refused : goal.returns-in-Err-clause-refused
 returns-in-Err-clause-refused g c =

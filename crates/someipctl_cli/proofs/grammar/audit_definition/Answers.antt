@@ -1,7 +1,7 @@
 use Rattle.std.proofs.Common.{rules}
 use Rattle.std.specs.Prelude.{codes}
 use Rattle.clap.specs.Words.{new_app}
-use Rattle.someipctl_cli.specs.CommandLine.{required, valued}
+use Rattle.someipctl_cli.specs.CommandLine.{required_many, valued}
 use Rattle.someipctl_cli.proofs.CommandLineLemmas.{shape_from_app}
 use Rattle.someipctl_cli.proofs.grammar.audit_definition.Goals as goal
 
@@ -9,8 +9,9 @@ pub returns-clause-shape : goal.returns-clause-shape
 returns-clause-shape c =
     let first = c.taking-first.ensures.app (new_app (codes "audit")) (valued (codes "ports")) (search rules) c.valued_option-ports.ensures.rule in
     let second = c.taking-second.ensures.app _ (valued (codes "answer-ms")) first c.valued_option-answer.ensures.rule in
-    let third = c.taking-third.ensures.app _ (valued (codes "settle-ms")) second c.valued_option-settle.ensures.rule in
-    shape_from_app _ _ (c.taking.ensures.app _ (required (codes "recording")) third c.explained-file.ensures.rule)
+    let settled = c.taking.ensures.app _ (valued (codes "settle-ms")) second c.valued_option-settle.ensures.rule in
+    let third = c.add_packets-third.ensures.app _ settled in
+    shape_from_app _ _ (c.taking-2.ensures.app _ (required_many (codes "file")) third c.files.ensures.rule)
 
 pub returns-clause-local : goal.returns-clause-local
-returns-clause-local c = c.taking.ensures.local (c.taking-third.ensures.local (c.taking-second.ensures.local (c.taking-first.ensures.local (search rules))))
+returns-clause-local c = c.taking-2.ensures.local (c.add_packets-third.ensures.local (c.taking.ensures.local (c.taking-second.ensures.local (c.taking-first.ensures.local (search rules)))))

@@ -1,18 +1,18 @@
 use Rattle.std.proofs.Common.{rules}
 use Rattle.std.specs.Prelude.{codes}
 use Rattle.clap.specs.Words.{new_app}
-use Rattle.someipctl_cli.specs.CommandLine.{flag, required, valued}
+use Rattle.someipctl_cli.specs.CommandLine.{required_many, valued}
 use Rattle.someipctl_cli.proofs.CommandLineLemmas.{shape_from_app}
 use Rattle.someipctl_cli.proofs.grammar.recording_definition.Goals as goal
 
 pub returns-clause-shape : goal.returns-clause-shape
 returns-clause-shape c =
-    let first = c.taking-first.ensures.app (new_app (codes "recording")) (valued (codes "ports")) (search rules) c.valued_option-ports.ensures.rule in
-    let second = c.taking-second.ensures.app _ (flag (codes "endpoints")) first c.flag-endpoints.ensures.rule in
-    let third = c.add_filters-third.ensures.app _ second in
-    let fourth = c.add_whole.ensures.app _ third in
-    shape_from_app _ _ (c.taking.ensures.app _ (required (codes "file")) fourth c.explained-file.ensures.rule)
+    let ports = c.taking.ensures.app (new_app (codes "recording")) (valued (codes "ports")) (search rules) c.valued_option-ports.ensures.rule in
+    let filtered = c.add_filters.ensures.app _ (c.add_heads-first.ensures.app _ ports) in
+    let chosen = c.add_packets.ensures.app _ (c.add_choice-second.ensures.app _ filtered) in
+    let whole = c.add_whole-third.ensures.app _ chosen in
+    shape_from_app _ _ (c.taking-2.ensures.app _ (required_many (codes "file")) whole c.files.ensures.rule)
 
 pub returns-clause-local : goal.returns-clause-local
 returns-clause-local c =
-    c.taking.ensures.local (c.add_whole.ensures.local (c.add_filters-third.ensures.local (c.taking-second.ensures.local (c.taking-first.ensures.local (search rules)))))
+    c.taking-2.ensures.local (c.add_whole-third.ensures.local (c.add_packets.ensures.local (c.add_choice-second.ensures.local (c.add_filters.ensures.local (c.add_heads-first.ensures.local (c.taking.ensures.local (search rules)))))))

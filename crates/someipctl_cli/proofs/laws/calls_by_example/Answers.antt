@@ -14,6 +14,7 @@ returns c = record {
   show_options = refl;
   recording = refl;
   recording_options = refl;
+  files = refl;
   chart = refl;
   audit = refl;
   audit_options = refl;

@@ -14,12 +14,12 @@ use Rattle.someipctl_recordings.proofs.datagrams.put_datagram.Goals as goal
 pub returns-then-is_empty-clause-faulty : goal.returns-then-is_empty-clause-faulty
 returns-then-is_empty-clause-faulty g c =
     sym (ap (has_fault_with (scene_by c.args.telling.now.values.types.now c.args.shown.now) (view_store g.S.Reassembly.limits g.S.Reassembly.parts c.args.telling.now.store))
-    (no_items c.args.shown.now.datagram.payload.now (search rules)))
+    (no_items c.args.shown.now.arrival.datagram.payload.now (search rules)))
 
 pub returns-then-is_empty-clause-store : goal.returns-then-is_empty-clause-store
 returns-then-is_empty-clause-store g c =
-    sym (ap (store_after_all (view_store g.S.Reassembly.limits g.S.Reassembly.parts c.args.telling.now.store) c.args.shown.now.now (view_datagram c.args.shown.now.datagram))
-    (no_items c.args.shown.now.datagram.payload.now (search rules)))
+    sym (ap (store_after_all (view_store g.S.Reassembly.limits g.S.Reassembly.parts c.args.telling.now.store) c.args.shown.now.now (view_datagram c.args.shown.now.arrival.datagram))
+    (no_items c.args.shown.now.arrival.datagram.payload.now (search rules)))
 
 pub returns-in_err-put_empty-clause-err : goal.returns-in_err-put_empty-clause-err
 returns-in_err-put_empty-clause-err g c =
@@ -38,11 +38,11 @@ returns-clause-ok g c =
     let scene = scene_by c.args.telling.now.values.types.now c.args.shown.now in
     let store = view_store g.S.Reassembly.limits g.S.Reassembly.parts c.args.telling.now.store in
     on_ok_weaker c.put_items.result
-    (sends_as (AreLinesWith scene store 0 (items_of c.args.shown.now.datagram.payload.now)) (IsSceneText scene store) _ _ _ _ (lines_scene scene store (search rules))) c.put_items.ensures.ok
+    (sends_as (AreLinesWith scene store 0 (items_of c.args.shown.now.arrival.datagram.payload.now)) (IsSceneText scene store) _ _ _ _ (lines_scene scene store (search rules))) c.put_items.ensures.ok
 
 pub returns-clause-err : goal.returns-clause-err
 returns-clause-err g c =
     let scene = scene_by c.args.telling.now.values.types.now c.args.shown.now in
     let store = view_store g.S.Reassembly.limits g.S.Reassembly.parts c.args.telling.now.store in
     on_err_weaker c.put_items.result
-    (stops_as (AreLinesWith scene store 0 (items_of c.args.shown.now.datagram.payload.now)) (IsSceneText scene store) _ _ _ (lines_scene scene store (search rules))) c.put_items.ensures.err
+    (stops_as (AreLinesWith scene store 0 (items_of c.args.shown.now.arrival.datagram.payload.now)) (IsSceneText scene store) _ _ _ (lines_scene scene store (search rules))) c.put_items.ensures.err

@@ -16,19 +16,19 @@ use Rattle.someipctl_recordings.proofs.datagrams.put_items.Goals as goal
 pub loop-item-init : goal.loop-item-init
 loop-item-init g c =
     let same : c.into_iter-item-iterator.result ≡ c.new-item-items.result = search rules in
-    let within = items_within_datagram c.args.shown.now.datagram.payload.now c.new-item-items.result (search rules) in
+    let within = items_within_datagram c.args.shown.now.arrival.datagram.payload.now c.new-item-items.result (search rules) in
     let scene = scene_by c.args.telling.now.values.types.now c.args.shown.now in
     let first = view_store g.S.Reassembly.limits g.S.Reassembly.parts c.args.telling.now.store in
     (sending_start _ _ (AreLinesWith scene first 0 c.into_iter-item-iterator.result), refl, omega (arith, within, ap items_len same), refl, refl, c.requires.in_time)
 
 pub returns-in_err-faulty-clause-err : goal.returns-in_err-faulty-clause-err
 returns-in_err-faulty-clause-err g c =
-    let all : c.into_iter-item-iterator.result ≡ items_of c.args.shown.now.datagram.payload.now = search rules in
+    let all : c.into_iter-item-iterator.result ≡ items_of c.args.shown.now.arrival.datagram.payload.now = search rules in
     let scene = scene_by c.args.telling.now.values.types.now c.args.shown.now in
     let first = view_store g.S.Reassembly.limits g.S.Reassembly.parts c.args.telling.now.store in
     let store = view_store g.S.Reassembly.limits g.S.Reassembly.parts c.loop-item.telling.store in
     let item = view_item c.in-Some.item in
-    let next = store_after store c.args.shown.now.now (view_datagram c.args.shown.now.datagram) item in
+    let next = store_after store c.args.shown.now.now (view_datagram c.args.shown.now.arrival.datagram) item in
     rw (← all)
     (OnErr-any c.from_residual.result
     (sending_stop _ _ _ _ _ (AreItemLines scene store c.loop-item.place item) (AreLinesWith scene next (c.loop-item.place + item_len item) c.next.new.self)
@@ -40,7 +40,7 @@ loop-item-preserved g c =
     let scene = scene_by c.args.telling.now.values.types.now c.args.shown.now in
     let first = view_store g.S.Reassembly.limits g.S.Reassembly.parts c.args.telling.now.store in
     let store = view_store g.S.Reassembly.limits g.S.Reassembly.parts c.loop-item.telling.store in
-    let d = view_datagram c.args.shown.now.datagram in
+    let d = view_datagram c.args.shown.now.arrival.datagram in
     let item = view_item c.in-Some.item in
     rw (c.item_len.ensures, c.in_ok-faulty.ensures.store) (
       sending_more _ _ _ _ _ _ (AreItemLines scene store c.loop-item.place item) (AreLinesWith scene (store_after store c.args.shown.now.now d item) (c.loop-item.place + item_len item) c.next.new.self)
@@ -55,7 +55,7 @@ loop-item-preserved g c =
 
 pub returns-clause-ok : goal.returns-clause-ok
 returns-clause-ok g c =
-    let all : c.into_iter-item-iterator.result ≡ items_of c.args.shown.now.datagram.payload.now = search rules in
+    let all : c.into_iter-item-iterator.result ≡ items_of c.args.shown.now.arrival.datagram.payload.now = search rules in
     let scene = scene_by c.args.telling.now.values.types.now c.args.shown.now in
     let first = view_store g.S.Reassembly.limits g.S.Reassembly.parts c.args.telling.now.store in
     let store = view_store g.S.Reassembly.limits g.S.Reassembly.parts c.loop-item.telling.store in

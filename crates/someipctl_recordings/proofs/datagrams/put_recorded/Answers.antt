@@ -1,5 +1,4 @@
-use Rattle.std.proofs.Common.{refl}
-use Rattle.recording.specs.View.{view_datagram}
+use Rattle.recording_packets.specs.View.{view_arrival}
 use Rattle.someipctl_io.proofs.SendingLemmas.{OnErr-any}
 use Rattle.someipctl_show.proofs.KindLemmas.{stops_none}
 use Rattle.someipctl_recordings.specs.Gathered.{view_store}
@@ -12,5 +11,5 @@ pub returns-in_err-faulty-clause-err : goal.returns-in_err-faulty-clause-err
 returns-in_err-faulty-clause-err g c =
     let scene = scene_by c.args.telling.now.values.types.now c.args.shown.now in
     let store = view_store g.S.Reassembly.limits g.S.Reassembly.parts c.args.telling.now.store in
-    let d = view_datagram c.args.shown.now.datagram in
-    OnErr-any c.from_residual.result (stops_none (Headed c.args.endpoints d (IsSceneText scene store)) _ _ (some_headed c.args.endpoints d (IsSceneText scene store) (some_scene scene store)))
+    let a = view_arrival c.args.shown.now.arrival in
+    OnErr-any c.from_residual.result (stops_none (Headed c.args.heads a (IsSceneText scene store)) _ _ (some_headed c.args.heads a (IsSceneText scene store) (some_scene scene store)))

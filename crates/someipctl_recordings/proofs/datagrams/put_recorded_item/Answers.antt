@@ -1,4 +1,3 @@
-use Rattle.std.proofs.Common.{refl}
 use Rattle.recording.specs.View.{view_datagram}
 use Rattle.someip_wire.specs.View.{view_item}
 use Rattle.someipctl_io.proofs.SendingLemmas.{OnErr-any}
@@ -28,7 +27,7 @@ pub returns-in_err-is_item_faulty-clause-err : goal.returns-in_err-is_item_fault
 returns-in_err-is_item_faulty-clause-err g c =
     let types = c.args.telling.now.values.types.now in
     let item = view_item c.args.item.now in
-    let told = told_of (view_store g.S.Reassembly.limits g.S.Reassembly.parts c.args.telling.now.store) c.args.shown.now.now (view_datagram c.args.shown.now.datagram) item in
+    let told = told_of (view_store g.S.Reassembly.limits g.S.Reassembly.parts c.args.telling.now.store) c.args.shown.now.now (view_datagram c.args.shown.now.arrival.datagram) item in
     let Own = IsItemText types c.args.shown.now.k c.args.place item in
     let Gathered = IsGatheredText types c.args.shown.now.k told in
     OnErr-any c.from_residual-in_err-is_item_faulty.result (stops_first Own Gathered _ _ _ c.in_err-is_item_faulty.ensures.err (some_gathered types c.args.shown.now.k told))
@@ -37,7 +36,7 @@ pub returns-in_err-is_whole_faulty-clause-err : goal.returns-in_err-is_whole_fau
 returns-in_err-is_whole_faulty-clause-err g c =
     let types = c.args.telling.now.values.types.now in
     let item = view_item c.args.item.now in
-    let told = told_of (view_store g.S.Reassembly.limits g.S.Reassembly.parts c.args.telling.now.store) c.args.shown.now.now (view_datagram c.args.shown.now.datagram) item in
+    let told = told_of (view_store g.S.Reassembly.limits g.S.Reassembly.parts c.args.telling.now.store) c.args.shown.now.now (view_datagram c.args.shown.now.arrival.datagram) item in
     let Own = IsItemText types c.args.shown.now.k c.args.place item in
     let Gathered = IsGatheredText types c.args.shown.now.k told in
     OnErr-any c.from_residual-in_err-is_whole_faulty.result
@@ -48,7 +47,7 @@ pub returns-clause-ok : goal.returns-clause-ok
 returns-clause-ok g c =
     let types = c.args.telling.now.values.types.now in
     let item = view_item c.args.item.now in
-    let told = told_of (view_store g.S.Reassembly.limits g.S.Reassembly.parts c.args.telling.now.store) c.args.shown.now.now (view_datagram c.args.shown.now.datagram) item in
+    let told = told_of (view_store g.S.Reassembly.limits g.S.Reassembly.parts c.args.telling.now.store) c.args.shown.now.now (view_datagram c.args.shown.now.arrival.datagram) item in
     let Own = IsItemText types c.args.shown.now.k c.args.place item in
     let Gathered = IsGatheredText types c.args.shown.now.k told in
     sends_both Own Gathered _ _ _ _ _ _ c.in_ok-is_item_faulty.ensures.ok

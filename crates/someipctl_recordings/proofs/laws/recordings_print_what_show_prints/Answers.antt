@@ -2,6 +2,8 @@ use Rattle.std.proofs.Common.{◌≡◌, ◌+◌, ◌++◌, ◌||◌, ℕ, Bool,
 use Rattle.std.specs.List.{list_any}
 use Rattle.std.proofs.lemmas.List.{append-nil}
 use Rattle.recording.specs.Packets.{DatagramValue}
+use Rattle.recording_packets.specs.Intake.{ArrivalValue}
+use Rattle.someipctl_recordings.specs.declared.asked.Heads.{Heads}
 use Rattle.someip_wire.specs.declared.WireError.{WireError}
 use Rattle.someip_wire.specs.Spelling.{MessageValue}
 use Rattle.someip_wire.specs.Reading.{items_of}
@@ -10,7 +12,7 @@ use Rattle.someipctl_show.specs.ShownText.{AreLines, AreTexts, IsDatagramText, I
 use Rattle.someipctl_show.specs.TextKinds.{Joined}
 use Rattle.someipctl_recordings.specs.Asked.{AskedValue}
 use Rattle.someipctl_recordings.specs.Gathered.{StoreValue}
-use Rattle.someipctl_recordings.specs.RecordedText.{AreItemLines, AreLinesOf, AreLinesWith, AreRecorded, Headed, IsRecordedText, IsSceneText, Progress, Scene, after_all, after_datagram, has_fault_with, scene_of, store_after_all}
+use Rattle.someipctl_recordings.specs.RecordedText.{AreItemLines, AreLinesOf, AreLinesWith, AreRecorded, Headed, IsRecordedText, IsSceneText, Progress, Scene, after_all, after_datagram, has_fault_with, no_heads, scene_of, store_after_all}
 use Rattle.someipctl_recordings.proofs.laws.recordings_print_what_show_prints.Goals as goal
 
 -- without a store
@@ -52,41 +54,41 @@ stays : (asked : AskedValue) (p : Progress) (d : DatagramValue) → p.store ≡ 
 stays asked p d none = ap (λ s. store_after_all s (after_datagram asked p d).now d (items_of d.payload)) none ∙ no_store (after_datagram asked p d).now d (items_of d.payload)
 
 -- without heads
-plain_headed : (d : DatagramValue) (Kind : List ℕ → Type 0) (text : List ℕ) → (Headed false d Kind text ↔ Kind text)
+plain_headed : (d : ArrivalValue) (Kind : List ℕ → Type 0) (text : List ℕ) → (Headed no_heads d Kind text ↔ Kind text)
 plain_headed d Kind text = (λ is. subst Kind (sym is.2) is.1, λ is. (text, is, refl))
 
-plain_recorded : (asked : AskedValue) (p : Progress) (d : DatagramValue) (text : List ℕ) → asked.endpoints ≡ false → p.store ≡ None
-    → (IsRecordedText asked p d text ↔ IsDatagramText asked.types (p.datagrams + 1) d.payload text)
+plain_recorded : (asked : AskedValue) (p : Progress) (d : ArrivalValue) (text : List ℕ) → asked.heads ≡ no_heads → p.store ≡ None
+    → (IsRecordedText asked p d text ↔ IsDatagramText asked.types (p.datagrams + 1) d.datagram.payload text)
 plain_recorded asked p d text plain none =
-    let c = scene_of asked p d in
-    let First : (b : Bool) → Type 0 = λ b. Headed b d (IsSceneText c None) text in
-    let Second : (store : Option StoreValue) → Type 0 = λ store. Headed asked.endpoints d (IsSceneText c store) text in
+    let c = scene_of asked p d.datagram in
+    let First : (b : Heads) → Type 0 = λ b. Headed b d (IsSceneText c None) text in
+    let Second : (store : Option StoreValue) → Type 0 = λ store. Headed asked.heads d (IsSceneText c store) text in
     let own = plain_headed d (IsSceneText c None) text in
-    let lines = plain_text c d.payload text in
+    let lines = plain_text c d.datagram.payload text in
     (λ is. lines.0 (own.0 (subst First plain (subst Second none is))), λ is. subst Second (sym none) (subst First (sym plain) (own.1 (lines.1 is))))
 
-same_text : (asked : AskedValue) (p : Progress) (ds : List DatagramValue) (text : List ℕ) → asked.endpoints ≡ false → p.store ≡ None
-    → (AreRecorded asked p ds text ↔ AreTexts asked.types (p.datagrams + 1) (map (λ (d : DatagramValue). d.payload) ds) text)
+same_text : (asked : AskedValue) (p : Progress) (ds : List ArrivalValue) (text : List ℕ) → asked.heads ≡ no_heads → p.store ≡ None
+    → (AreRecorded asked p ds text ↔ AreTexts asked.types (p.datagrams + 1) (map (λ (d : ArrivalValue). d.datagram.payload) ds) text)
 same_text asked p [] text plain none = (λ is. is, λ is. is)
 same_text asked p (d ∷ ds) text plain none =
-    joined_same (IsRecordedText asked p d) (AreRecorded asked (after_datagram asked p d) ds) (IsDatagramText asked.types (p.datagrams + 1) d.payload)
-    (AreTexts asked.types ((p.datagrams + 1) + 1) (map (λ (d : DatagramValue). d.payload) ds))
-    (λ t. plain_recorded asked p d t plain none) (λ t. same_text asked (after_datagram asked p d) ds t plain (stays asked p d none)) text
+    joined_same (IsRecordedText asked p d) (AreRecorded asked (after_datagram asked p d.datagram) ds) (IsDatagramText asked.types (p.datagrams + 1) d.datagram.payload)
+    (AreTexts asked.types ((p.datagrams + 1) + 1) (map (λ (d : ArrivalValue). d.datagram.payload) ds))
+    (λ t. plain_recorded asked p d t plain none) (λ t. same_text asked (after_datagram asked p d.datagram) ds t plain (stays asked p d.datagram none)) text
 
 or_assoc : (a b c : Bool) → ((a || b) || c) ≡ (a || (b || c))
 or_assoc true b c = refl
 or_assoc false b c = refl
 
-same_faults : (asked : AskedValue) (p : Progress) (ds : List DatagramValue) → p.store ≡ None
-    → (after_all asked p ds).is_faulty ≡ (p.is_faulty || list_any (has_fault asked.types) (map (λ (d : DatagramValue). d.payload) ds))
+same_faults : (asked : AskedValue) (p : Progress) (ds : List ArrivalValue) → p.store ≡ None
+    → (after_all asked p ds).is_faulty ≡ (p.is_faulty || list_any (has_fault asked.types) (map (λ (d : ArrivalValue). d.datagram.payload) ds))
 same_faults asked p [] none = sym (or_false p.is_faulty)
 same_faults asked p (d ∷ ds) none =
-    let c = scene_of asked p d in
-    let rest = list_any (has_fault asked.types) (map (λ (d : DatagramValue). d.payload) ds) in
-    let own : has_fault_with c p.store (items_of d.payload) ≡ has_fault asked.types d.payload =
-    ap (λ s. has_fault_with c s (items_of d.payload)) none ∙ plain_faults c (items_of d.payload) in
-    same_faults asked (after_datagram asked p d) ds (stays asked p d none)
-    ∙ ap (λ b. (p.is_faulty || b) || rest) own ∙ or_assoc p.is_faulty (has_fault asked.types d.payload) rest
+    let c = scene_of asked p d.datagram in
+    let rest = list_any (has_fault asked.types) (map (λ (d : ArrivalValue). d.datagram.payload) ds) in
+    let own : has_fault_with c p.store (items_of d.datagram.payload) ≡ has_fault asked.types d.datagram.payload =
+    ap (λ s. has_fault_with c s (items_of d.datagram.payload)) none ∙ plain_faults c (items_of d.datagram.payload) in
+    same_faults asked (after_datagram asked p d.datagram) ds (stays asked p d.datagram none)
+    ∙ ap (λ b. (p.is_faulty || b) || rest) own ∙ or_assoc p.is_faulty (has_fault asked.types d.datagram.payload) rest
 
 pub returns-clause-text : goal.returns-clause-text
 returns-clause-text c = same_text

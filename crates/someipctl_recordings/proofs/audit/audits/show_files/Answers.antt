@@ -1,10 +1,11 @@
+use Rattle.std.proofs.Common.{map}
 use Rattle.someipctl_io.proofs.SendingLemmas.{OnErr-any}
 use Rattle.someipctl_recordings.specs.audit.AuditResult.{view_asked}
 use Rattle.someipctl_recordings.proofs.about_audit.RunLemmas.{begins_nothing, puts_begun, puts_shown}
-use Rattle.someipctl_recordings.proofs.audit.audits.show_audit.Goals as goal
+use Rattle.someipctl_recordings.proofs.audit.audits.show_files.Goals as goal
 
 pub returns-in_err-buffer-clause-begun : goal.returns-in_err-buffer-clause-begun
-returns-in_err-buffer-clause-begun g c = OnErr-any c.from_residual.result (begins_nothing (view_asked c.args.asked.now) (g.R.Read.remaining c.args.source.now) (g.W.Write.contents c.args.writer.now))
+returns-in_err-buffer-clause-begun g c = OnErr-any c.from_residual.result (begins_nothing (view_asked c.args.asked.now) (map g.R.Read.remaining c.args.sources.now) (g.W.Write.contents c.args.writer.now))
 
 pub returns-in_err-flush-clause-begun : goal.returns-in_err-flush-clause-begun
 returns-in_err-flush-clause-begun g c =

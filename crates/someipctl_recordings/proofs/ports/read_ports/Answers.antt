@@ -1,9 +1,0 @@
-use Rattle.std.proofs.Common.{ap, sym, ◌∙◌, map}
-use Rattle.std.proofs.lemmas.List.{drop_more}
-use Rattle.someipctl_recordings.specs.Ports.{port_in}
-use Rattle.someipctl_show.proofs.WordLemmas.{bad_word}
-use Rattle.someipctl_recordings.proofs.ports.read_ports.Goals as goal
-
-pub returns-in-None-clause-bad : goal.returns-in-None-clause-bad
-returns-in-None-clause-bad c = λ bad.
-    bad_word port_in c.loop-word.ports.items _ _ _ _ c.loop-word.invariant (ap (map (λ w. w.now)) (drop_more c.args.words.now c.loop-word.word-index _ c.loop-word-test.true)) (sym c.port_of.ensures ∙ c.in-None.is)
