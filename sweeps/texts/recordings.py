@@ -16,8 +16,8 @@ def ipv4(flags=0, protocol=17, udp_len=8 + len(MESSAGE), version=0x45):
 KINDS = (
     ("of another link type", ((1, ipv4()), (1, b""))),
     ("not IPv4", ((0, ipv4(version=0x65)), (0, b""))),
-    ("fragmented", ((0, ipv4(flags=0x2000)), (0, ipv4(flags=1)), (0, ipv4(flags=0x1FFF, protocol=6)))),
-    ("not UDP", ((0, ipv4(protocol=6)), (0, ipv4(protocol=6)[:-1]), (0, ipv4(protocol=0, udp_len=7)))),
+    ("not UDP", ((0, ipv4(protocol=6)), (0, ipv4(protocol=6)[:-1]), (0, ipv4(protocol=0, udp_len=7)),
+                 (0, ipv4(flags=0x1FFF, protocol=6)), (0, ipv4(flags=0x2000, protocol=1)))),
     ("cut short", ((0, ipv4()[:-1]), (0, ipv4(udp_len=7)[:-1]), (0, ipv4()[:28]))),
     ("with a bad UDP length", ((0, ipv4(udp_len=7)), (0, ipv4(udp_len=9 + len(MESSAGE))), (0, ipv4(udp_len=0)))),
 )

@@ -17,16 +17,16 @@ HELP = (
     ("someipctl|show|--help", "  12340421 00000008 00010001 01010000\n"),
     ("someipctl|show|-h", " type REQUEST code 00 payload -\n"),
     # What a command does, its options with the defaults of FORMATS, and its example.
-    ("someipctl|help|audit", "Prints what a recording of network traffic shows against the protocol\n\n"
-     "Usage: someipctl audit [OPTIONS] <RECORDING>\n"),
+    ("someipctl|help|audit", "Prints what recordings of network traffic show against the protocol\n\n"
+     "Usage: someipctl audit [OPTIONS] <FILE>...\n"),
     ("someipctl|help|audit", "      --answer-ms <N>  The milliseconds that an answer may take, 2000 without it\n"),
     ("someipctl|help|audit", "      --settle-ms <N>  The milliseconds at first in which no event without a "
      "subscription is told, 10000 without it\n"),
     ("someipctl|help|audit", "  someipctl audit examples/audit.pcap\n"),
     ("someipctl|help|chart", "Draws a run of a schedule over the nodes of a setup, as an SVG picture\n\nUsage: "),
     ("someipctl|help|chart", "  someipctl chart examples/runs/two.toml examples/runs/two.txt > two.svg\n"),
-    ("someipctl|help|recording", "Prints the messages of a recording of network traffic\n\n"
-     "Usage: someipctl recording [OPTIONS] <FILE>\n"),
+    ("someipctl|help|recording", "Prints the messages of recordings of network traffic\n\n"
+     "Usage: someipctl recording [OPTIONS] <FILE>...\n"),
     ("someipctl|help|recording", "      --whole-limit <N>     The bytes that such a message may have, "
      "1048576 without it\n"),
     ("someipctl|help|recording", "      --whole-slots <N>     How many may have come in part at once, 16 without it\n"),
@@ -44,10 +44,10 @@ USAGE = (
     ("someipctl|run|--expect|x|y", "error: the following required arguments were not provided:\n"),
     ("someipctl|recording|--whole=1|x", "error: unexpected value '1' for '--whole' found"),
     ("someipctl|recording|--whole-slots|x", "error: the following required arguments were not provided:\n"),
-    ("someipctl|recording", "Usage: someipctl recording <FILE>\n"),
+    ("someipctl|recording", "Usage: someipctl recording <FILE>...\n"),
     ("someipctl|run|x", "Usage: someipctl run <SETUP> <SCHEDULE>\n"),
     ("someipctl|chart|x", "Usage: someipctl chart <SETUP> <SCHEDULE>\n"),
-    ("someipctl|audit", "Usage: someipctl audit <RECORDING>\n"),
+    ("someipctl|audit", "Usage: someipctl audit <FILE>...\n"),
     ("someipctl|payload|u8", "Usage: someipctl payload <SHAPE> <HEX>\n"),
     ("/bin/other", "Usage: someipctl <COMMAND>\n"),
     ("someipctl|list", "error: unrecognized subcommand 'list'\n"),
@@ -61,8 +61,8 @@ USAGE = (
 )
 
 # Options with a number: the words before them, the option and its value's name, its range, and the usage that is told.
-RECORDING = "Usage: someipctl recording [OPTIONS] <FILE>"
-AUDIT = "Usage: someipctl audit [OPTIONS] <RECORDING>"
+RECORDING = "Usage: someipctl recording [OPTIONS] <FILE>..."
+AUDIT = "Usage: someipctl audit [OPTIONS] <FILE>..."
 NUMBERS = (
     ("recording|--whole", "--whole-limit", "N", 1400, 1048576, RECORDING),
     ("recording|--whole", "--whole-slots", "N", 1, 1024, RECORDING),
@@ -72,6 +72,24 @@ NUMBERS = (
 )
 # Values of `--ports` that are none.
 BAD_PORTS = ("0", "65536", "1,,2", ",1", "1,", "01", "+1", " 1", "1 ", "x", "1;2", "99999999999999999999")
+# Options of lists, of a client and of times: the commands that take them, the option and its value's name, what its
+# values are, texts that are none, and some that are.
+LISTS = (
+    (("recording", "audit"), "--interface", "N", "interfaces are numbers from 0 to 65535 with commas between them",
+     ("65536", "0,,1", ",0", "00", "-1", "x"), ("0", "65535", "0,1,0")),
+    (("recording", "audit"), "--vlan", "ID", "VLAN IDs are numbers from 0 to 4095 with commas between them",
+     ("4096", "1,", "01", "x"), ("0", "4095", "7,6")),
+    (("recording", "audit"), "--dedup", "MS", "copies come within 1 to 60000 milliseconds", ("0", "60001", "01", "x"),
+     ("1", "60000")),
+    (("recording",), "--address", "A", "addresses are IPv4 addresses with commas between them",
+     ("1.2.3", "1.2.3.256", "1.2.3.4,", "1.2.3.4:5", "::1", " 1.2.3.4", "01.2.3.4"), ("1.2.3.4", "0.0.0.0,255.255.255.255")),
+    (("recording",), "--client", "C", "a client is four hex digits", ("1", "00001", "xyzw", "0x01"), ("0101", "FFFF")),
+    (("recording",), "--from", "TIME", "a time is seconds since 1970, perhaps with a dot and up to nine decimals",
+     ("-1", "01", "1.", ".1", "1.1234567890", "1.x", "1.1.1", "+1", "18446744073709551616"),
+     ("0", "1.5", "1700000000.123456789", "18446744073709551615.000000001")),
+    (("recording",), "--until", "TIME", "a time is seconds since 1970, perhaps with a dot and up to nine decimals",
+     ("x", "1.+5", "1e9"), ("0.0", "7.000000007")),
+)
 # Options of which two are bad, or one stands alone, and the one that is told.
 TOLD_FIRST = (
     ("recording|--whole|--whole-timeout|0|--whole-slots|0|--whole-limit|0|missing",
@@ -116,6 +134,14 @@ def values():
                    f"ports are numbers from 1 to 65535 with commas between them\n\n{usage}\n")
         for text in ("1", "65535", "65535,1,1"):
             yield f"{command}|--ports|{text}|missing", 4, "cannot read missing\n"
+    for commands, option, name, told, bad, good in LISTS:
+        for command in commands:
+            usage = RECORDING if command == "recording" else AUDIT
+            for text in bad:
+                yield (f"{command}|{option}={text}|missing", 2,
+                       f"error: invalid value '{text}' for '{option} <{name}>': {told}\n\n{usage}\n")
+            for text in good:
+                yield f"{command}|{option}|{text}|missing", 4, "cannot read missing\n"
     for words, told, usage in TOLD_FIRST:
         yield words, 2, f"{told}\n\n{usage}\n"
     for command, usage in (("recording", RECORDING), ("show", SHOW)):
