@@ -5,7 +5,7 @@
 //! - [`KeySet`]: keys alone;
 //! - [`compare_endpoints`], [`is_same_endpoint`], [`number_of_endpoint`], [`is_same_address`], [`number_of_address`]:
 //!   endpoints and addresses as numbers;
-//! - [`Origin`]: the datagram of a recording that something came in;
+//! - [`Origin`]: the datagram of a recording that something came in; [`Numbers`]: its numbers;
 //! - [`Room`]: how many entries a table may hold, and whether it was told that it is full;
 //! - [`laws`]: what the definitions behind the contracts promise.
 
@@ -24,5 +24,5 @@ pub use endpoint::{
     compare_endpoints, is_same_address, is_same_endpoint, number_of_address, number_of_endpoint,
 };
 pub use key_set::KeySet;
-pub use origin::Origin;
+pub use origin::{Numbers, Origin};
 pub use room::Room;
