@@ -32,18 +32,18 @@ impl<'a> ChosenPackets<'a> {
     }
 
     /// Whether a packet is looked at.
-    pub fn chooses(&self, record: &Record<'_>) -> bool
-        ensures { result ≡ is_chosen (view_chosen self.now) (view_record record.now) }
+    pub fn chooses(&self, found: &Record<'_>) -> bool
+        ensures { result ≡ is_chosen (view_chosen self.now) (view_record found.now) }
     {
-        is_of_interface(self.interfaces, record) && has_vlan(self.vlans, record)
+        is_of_interface(self.interfaces, found) && has_vlan(self.vlans, found)
     }
 }
 
-fn is_of_interface(interfaces: Option<&[u16]>, record: &Record<'_>) -> bool
-    ensures { result ≡ is_of_interface (option_map (λ n. n.now) interfaces.entry) (view_record record.now) }
+fn is_of_interface(interfaces: Option<&[u16]>, found: &Record<'_>) -> bool
+    ensures { result ≡ is_of_interface (option_map (λ n. n.now) interfaces.entry) (view_record found.now) }
 {
     match interfaces {
-        Some(interfaces) => is_one_of(interfaces, record.interface),
+        Some(interfaces) => is_one_of(interfaces, found.interface),
         None => true,
     }
 }
@@ -55,12 +55,12 @@ fn is_one_of(interfaces: &[u16], interface: usize) -> bool
     interfaces.iter().any(|n| usize::from(*n) == interface)
 }
 
-fn has_vlan(vlans: Option<&[u16]>, record: &Record<'_>) -> bool
-    ensures { result ≡ has_vlan (option_map (λ v. v.now) vlans.entry) (view_record record.now) }
+fn has_vlan(vlans: Option<&[u16]>, found: &Record<'_>) -> bool
+    ensures { result ≡ has_vlan (option_map (λ v. v.now) vlans.entry) (view_record found.now) }
 {
     match vlans {
         Some(vlans) => {
-            is_among(vlans, record.outer_vlan()) || is_among(vlans, record.inner_vlan())
+            is_among(vlans, found.outer_vlan()) || is_among(vlans, found.inner_vlan())
         }
         None => true,
     }

@@ -108,23 +108,23 @@ impl Intake {
     pub fn take<'a>(
         &mut self,
         chosen: &ChosenPackets<'_>,
-        record: &Record<'a>,
+        found: &Record<'a>,
     ) -> Result<Taken<'a>, AllocError>
         ensures arrived { IfOk result (λ taken. arrival_of taken self.new
-            ≡ arrived (view_chosen chosen.now) self.old (view_record record.now)) }
+            ≡ arrived (view_chosen chosen.now) self.old (view_record found.now)) }
         ensures after { OnOk result (self.new
-            ≡ after_packet (view_chosen chosen.now) self.old (view_record record.now)) }
+            ≡ after_packet (view_chosen chosen.now) self.old (view_record found.now)) }
         ensures bounded { OnOk result (self.new.frames < 2 ^ 64) }
         ensures err { OnErr result
-            (wants_memory (view_chosen chosen.now) self.old (view_record record.now) ≡ true) }
+            (wants_memory (view_chosen chosen.now) self.old (view_record found.now) ≡ true) }
     {
         self.frames = self.frames.checked_add(1).ok_or(AllocError)?;
-        if !chosen.chooses(record) {
+        if !chosen.chooses(found) {
             return Ok(Taken::Nothing);
         }
-        self.clock = clock_after(self.clock, record.time);
-        match record.ipv4() {
-            Ok(packet) => self.take_packet(record.time, &packet),
+        self.clock = clock_after(self.clock, found.time);
+        match found.ipv4() {
+            Ok(packet) => self.take_packet(found.time, &packet),
             Err(skipped) => {
                 self.skipped.add(skipped);
                 Ok(Taken::Nothing)

@@ -55,7 +55,7 @@ module _ (held : Held) (now : ℕ) (seg off sub : Option ℕ)
   moved not_there = ap (λ x. is_awaited x next) (sym at_eq) ∙ not_there
 
   missing_come : (m : Missing) → segments.IsWaiting held.segments.waiting m → is_due_by m.until seg ≡ true
-  missing_come m waiting = not_before_first messages_total exact_messages waits.waits_of held.segments.waiting seg from_seg (message_key m.key) (record { k = m.k; until = m.until }) m.until waiting refl
+  missing_come m waiting = not_before_first messages_total exact_messages waits.waits_of held.segments.waiting seg from_seg (message_key m.key) (record { numbers = m.numbers; until = m.until }) m.until waiting refl
 
   expired_come : (e : Expired) → finite.get held.offers.standing e.key ≡ Some e.offer → passes_at e.offer ≡ Some e.at → is_due_by e.at off ≡ true
   expired_come e has passes = not_before_first offers_total exact_offers passes_at held.offers.standing off from_off e.key e.offer e.at has passes
@@ -111,7 +111,7 @@ module _ (held : Held) (now : ℕ) (seg off sub : Option ℕ)
         pub no_missing : ((other : Missing) → segments.IsWaiting held.segments.waiting other → max held.segments.latest at < other.until) → ⊥
         no_missing none =
             something_waits messages_total exact_messages waits.waits_of held.segments.waiting seg from_seg at (awaited_is at seg first_is)
-            (λ k v has. let lt = none (record { key = k.0; k = v.k; until = v.until }) has in grind (arith, nat_tests, lt))
+            (λ k v has. let lt = none (record { key = k.0; numbers = v.numbers; until = v.until }) has in grind (arith, nat_tests, lt))
 
         missing_at : (told : Missing) → segments.IsWaiting held.segments.waiting told
             → ((other : Missing) → segments.IsWaiting held.segments.waiting other → is_le (segments.missing_cmp told other) ≡ true) → told.until ≡ at
@@ -125,7 +125,7 @@ module _ (held : Held) (now : ℕ) (seg off sub : Option ℕ)
             cases false later =
                 absurd (something_waits messages_total exact_messages waits.waits_of held.segments.waiting seg from_seg at (awaited_is at seg first_is)
                 (λ k v has.
-                let le : told.until ≤ v.until = not_before message_cmp (record { at = told.until; key = message_key told.key }) (record { at = v.until; key = k }) (first (record { key = k.0; k = v.k; until = v.until }) has) in
+                let le : told.until ≤ v.until = not_before message_cmp (record { at = told.until; key = message_key told.key }) (record { at = v.until; key = k }) (first (record { key = k.0; numbers = v.numbers; until = v.until }) has) in
                 grind (arith, nat_tests, le)))
 
         pub missing_is_due : (told : Missing) → segments.IsWaiting held.segments.waiting told

@@ -29,9 +29,9 @@ use Rattle.sd_wire.specs.declared.error.SdError.{SdError}
 use Rattle.audit_traffic.specs.events.EventTables as events
 use Rattle.someip_wire.specs.Reading.{items_of}
 use Rattle.someip_audit.specs.Audits.{Seen, datagram_shown, seen_work, without_passed}
-use Rattle.someip_audit.specs.WatchedEndpoints.{is_looked_at}
+use Rattle.someip_audit.specs.WatchedEndpoints.{is_at_discovery, is_looked_at}
 use Rattle.someip_audit.specs.AnyShown.{any_shown, in_datagram, is_sd, item_len, item_shown, items_shown, payload_shown}
-use Rattle.someip_audit.specs.MessageShown.{call_shown, delivery, event_flow, event_seen, event_shown, flow_shown, has_no_tp_header, is_event, message_shown, piece_shown, segment_held, segment_shown, segment_told, whole_shown}
+use Rattle.someip_audit.specs.MessageShown.{call_shown, delivery, event_flow, event_seen, event_shown, flow_shown, has_no_tp_header, is_event, message_shown, piece_shown, segment_at, segment_held, segment_shown, segment_told, whole_shown}
 use Rattle.audit_sd.specs.declared.subscriptions.entry.SubscribeEntry.{SubscribeEntry}
 use Rattle.audit_sd.specs.declared.receivers.entry.ReceiverEntry.{ReceiverEntry}
 use Rattle.someip_audit.specs.declared.finding.Finding.{Finding}
@@ -226,11 +226,18 @@ segment_front now origin place message work = cases (has_no_tp_header message.pa
     cases true = front_told (Some (findings.NoTpHeader place)) work.told
     cases false = piece_front now origin message work
 
+segment_at_front : (now : ℕ) (origin : Origin) (place : ℕ) (message : MessageValue) (work : Work) → IsFront work.told (segment_at now origin place message work).told
+segment_at_front now origin place message work = cases (is_at_discovery origin)
+  where
+    cases : (b : Bool) → IsFront work.told (if b then work else segment_shown now origin place message work).told
+    cases true = front_same work.told
+    cases false = segment_front now origin place message work
+
 message_front : (now : ℕ) (origin : Origin) (place : ℕ) (message : MessageValue) (work : Work) → IsFront work.told (message_shown now origin place message work).told
 message_front now origin place message work = cases (has_tp_flag message.header.kind)
   where
-    cases : (b : Bool) → IsFront work.told (if b then segment_shown now origin place message work else whole_shown now origin message.header message.payload work).told
-    cases true = segment_front now origin place message work
+    cases : (b : Bool) → IsFront work.told (if b then segment_at now origin place message work else whole_shown now origin message.header message.payload work).told
+    cases true = segment_at_front now origin place message work
     cases false = whole_front now origin message.header message.payload work
 
 -- its call was shown, and nothing more

@@ -4,3 +4,4 @@ pub mod FrontLemmas
 pub mod ItemLemmas
 pub mod ExpiryLemmas
 pub mod NextLemmas
+pub mod LearningLemmas

@@ -90,10 +90,10 @@ open_one held a b x y key =
     x.2 ∙ ap (λ call. unanswered call x.0) key ∙ ap (unanswered b.call) calls ∙ sym y.2
 
 missing_of : ReassemblyKey → Waiting → Missing
-missing_of key waiting = record { key = key; k = waiting.k; until = waiting.until }
+missing_of key waiting = record { key = key; numbers = waiting.numbers; until = waiting.until }
 
 waiting_of : Missing → Waiting
-waiting_of missing = record { k = missing.k; until = missing.until }
+waiting_of missing = record { numbers = missing.numbers; until = missing.until }
 
 missing_one : (held : Held) (a b : Missing) → IsWaiting held.segments.waiting a → IsWaiting held.segments.waiting b → message_key a.key ≡ message_key b.key → a ≡ b
 unfolding missing_of waiting_of

@@ -1,5 +1,5 @@
 -- What a recording shows, datagram by datagram.
-use Rattle.std.specs.Prelude.{◌≡◌, ℕ, if◌then◌else◌, true, List, [], ◌∷◌, ◌++◌, map, Option, None, Some}
+use Rattle.std.specs.Prelude.{◌≡◌, ℕ, Bool, if◌then◌else◌, true, List, [], ◌∷◌, ◌++◌, map, Option, None, Some}
 use Rattle.std.specs.FinMap as finite
 use Rattle.std.specs.Ordering.{is_le}
 use Rattle.someip_wire.specs.Reading.{items_of}
@@ -21,9 +21,9 @@ use Rattle.someip_audit.specs.WatchedEndpoints.{is_looked_at}
 abbrev pub AuditState : Type 0
 AuditState = Held
 
--- an audit that saw nothing, of a recording that begins at this moment
-abbrev pub audit_begun : AuditRules → Option (List ℕ) → ℕ → AuditState
-audit_begun rules ports now = empty_held rules ports now
+-- an audit that saw nothing, of a recording that begins at this moment; the ports that are looked at, and whether endpoints are learnt
+abbrev pub audit_begun : AuditRules → List ℕ → Bool → ℕ → AuditState
+audit_begun rules ports learns now = empty_held rules ports learns now
 
 -- ---- what expires
 

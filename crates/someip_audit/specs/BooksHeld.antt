@@ -1,5 +1,5 @@
 -- What the books of an audit hold.
-use Rattle.std.specs.Prelude.{◌-◌, ◌+◌, ◌^◌, ℕ, min, false, List, Option, refl}
+use Rattle.std.specs.Prelude.{◌-◌, ◌+◌, ◌^◌, ℕ, min, false, Bool, List, refl}
 use Rattle.std.specs.Coded.{Coded, code_by, coded×}
 use Rattle.std.specs.FinMap as finite
 use Rattle.audit_traffic.specs.calls.CallBooks as calls
@@ -11,7 +11,7 @@ use Rattle.audit_sd.specs.sessions.SessionBooks.{Sessions, coded_sessions}
 use Rattle.audit_sd.specs.receivers.ReceiverTables.{Receivers, coded_receivers}
 use Rattle.audit_traffic.specs.events.EventTables.{Events, coded_events}
 use Rattle.someip_audit.specs.declared.rules.AuditRules.{AuditRules}
-use Rattle.someip_audit.specs.WatchedEndpoints.{Watch, coded_watch}
+use Rattle.someip_audit.specs.WatchedEndpoints.{Watch, coded_watch, watch_begun}
 
 -- the value of each book, and which datagrams are looked at
 pub record Held : Type 0 where
@@ -28,9 +28,10 @@ pub record Held : Type 0 where
 abbrev pub moment_after : ℕ → ℕ → ℕ
 moment_after now millis = min (now + millis) (2 ^ 63 - 1)
 
--- books that saw nothing, of a recording that begins at this moment; the ports that are looked at, if these are named
-abbrev pub empty_held : AuditRules → Option (List ℕ) → ℕ → Held
-empty_held rules ports now = record {
+-- books that saw nothing, of a recording that begins at this moment; the ports that are looked at, and whether endpoints are
+-- learnt
+abbrev pub empty_held : AuditRules → List ℕ → Bool → ℕ → Held
+empty_held rules ports learns now = record {
   calls = calls.new_book (record { limit = rules.limit; answer_ms = rules.answer_ms; begins = now });
   segments = segments.empty_book (record { slots = rules.segments.slots; limit = rules.segments.limit; timeout = rules.segments.timeout_ms }) 0;
   offers = record { limit = rules.limit; standing = finite.empty; told_full = false };
@@ -38,7 +39,7 @@ empty_held rules ports now = record {
   sessions = record { limit = rules.limit; last = finite.empty; told_full = false };
   receivers = record { limit = rules.limit; settled = moment_after now rules.settle_ms; standing = finite.empty; told = finite.empty; told_full = false };
   events = record { limit = rules.limit; flows = finite.empty; told_full = false };
-  watched = record { ports = ports; limit = rules.limit; learnt = finite.empty; told_full = false };
+  watched = watch_begun ports learns rules.limit;
 }
 
 -- a code, by which a proof tells values apart

@@ -6,4 +6,5 @@ pub mod SdShown
 pub mod SdScenes
 pub mod MessageShown
 pub mod AnyShown
+pub mod Learning
 pub mod Audits

@@ -20,12 +20,13 @@ use Rattle.audit_traffic.specs.events.EventTables as events
 use Rattle.someip_audit.specs.declared.finding.Finding.TheVariants as findings
 use Rattle.someip_audit.specs.BooksHeld.{Held}
 use Rattle.someip_audit.specs.SdShown.{Work, with_told}
+use Rattle.someip_audit.specs.WatchedEndpoints.{is_at_discovery}
 
 -- ---- a whole message
 
 -- a message with this header and payload, as it was seen
 abbrev pub tapped_in : ℕ → Origin → Header → List ℕ → Tapped
-tapped_in now origin header payload = record { now = now; k = origin.datagram; from = origin.from; to = origin.to; header = header; payload = payload }
+tapped_in now origin header payload = record { now = now; numbers = origin.numbers; from = origin.from; to = origin.to; header = header; payload = payload }
 
 -- what it shows of calls
 abbrev pub call_shown : ℕ → Origin → Header → List ℕ → Work → Work
@@ -88,7 +89,7 @@ segment_told now origin header (Some (Err refusal)) work = record work { told = 
 -- the books once it came
 abbrev pub segment_held : ℕ → Origin → MessageValue → Held → Held
 segment_held now origin message held =
-    record held { segments = segments.book_after (segments.segment_of origin.from origin.to message) (max held.segments.latest now) origin.datagram held.segments }
+    record held { segments = segments.book_after (segments.segment_of origin.from origin.to message) (max held.segments.latest now) origin.numbers held.segments }
 
 abbrev pub piece_shown : ℕ → Origin → MessageValue → Work → Work
 piece_shown now origin message work =
@@ -108,8 +109,12 @@ segment_shown now origin place message work =
 
 -- ---- a message
 
+-- a segment from or to the port of Service Discovery shows nothing: there messages are not put together
+abbrev pub segment_at : ℕ → Origin → ℕ → MessageValue → Work → Work
+segment_at now origin place message work = if is_at_discovery origin then work else segment_shown now origin place message work
+
 -- one with the TP flag is a segment, and any other is whole; its payload begins at this place
 abbrev pub message_shown : ℕ → Origin → ℕ → MessageValue → Work → Work
 message_shown now origin place message work =
-    if has_tp_flag message.header.kind then segment_shown now origin place message work
+    if has_tp_flag message.header.kind then segment_at now origin place message work
     else whole_shown now origin message.header message.payload work

@@ -11,13 +11,13 @@ use Rattle.sd_wire.specs.contents.Values.{ReadValue, good}
 use Rattle.someip_wire.specs.declared.header.Header.{Header}
 use Rattle.someip_wire.specs.declared.header.MessageType.TheVariants as kinds
 use Rattle.someip_tables.specs.declared.deadline.Deadline.TheVariants.{At}
-use Rattle.audit_traffic.specs.calls.Scenes.{call_5, header_with}
+use Rattle.audit_traffic.specs.calls.Scenes.{call_5, header_with, numbered}
 use Rattle.audit_sd.specs.offers.OfferExamples.{endpoint, from_node, service}
 use Rattle.audit_sd.specs.subscriptions.SubscribeExamples as subscribes
 use Rattle.someip_wire.specs.Spelling.{MessageValue}
 use Rattle.someip_tables.specs.declared.hashed.origin.Origin.{Origin}
 use Rattle.someip_audit.specs.SdShown.{Work}
-use Rattle.someip_audit.specs.WatchedEndpoints.{Watch}
+use Rattle.someip_audit.specs.WatchedEndpoints.{Watch, watch_begun}
 use Rattle.someip_audit.specs.declared.finding.Finding.{Finding}
 use Rattle.someip_audit.specs.declared.fell_due.FellDue.{FellDue}
 use Rattle.someip_audit.specs.declared.fell_due.FellDue.TheVariants as due
@@ -36,7 +36,7 @@ group_entry kind ttl = record { kind = kind; service = 4096; instance = 1; major
 
 -- the call with session 5 that had no answer until a moment
 abbrev pub call_due : ℕ → FellDue
-call_due at = due.Unanswered (record { call = call_5; k = 7; since = 0; until = at })
+call_due at = due.Unanswered (record { call = call_5; numbers = numbered 7; since = 0; until = at })
 
 -- the offer of a service whose TTL passed at a moment
 abbrev pub offer_due : ℕ → ℕ → FellDue
@@ -52,11 +52,11 @@ sd_header = record (header_with 1 kinds.Notification) { service = 0xFFFF; method
 
 -- a datagram from a port of one node to a port of another
 abbrev pub sent_from : ℕ → ℕ → ℕ → ℕ → Origin
-sent_from from port to at = record { datagram = 1; from = endpoint from port; to = endpoint to at }
+sent_from from port to at = record { numbers = numbered 1; from = endpoint from port; to = endpoint to at }
 
--- which datagrams are looked at before anything was learnt
-abbrev pub watch_of : Option (List ℕ) → ℕ → Watch
-watch_of ports limit = record { ports = ports; limit = limit; learnt = finite.empty; told_full = false }
+-- port 40000 is looked at, and nothing is learnt
+abbrev pub at_40000 : Watch
+at_40000 = watch_begun (40000 ∷ []) false 4
 
 -- a segment of an event with this payload
 abbrev pub segment_with : List ℕ → MessageValue

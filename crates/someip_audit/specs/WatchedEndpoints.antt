@@ -1,7 +1,7 @@
 -- At which ports and endpoints datagrams are looked at.
-use Rattle.std.specs.Prelude.{ℕ, ◌==◌, nat_lt, Bool, true, not, ◌&&◌, ◌||◌, if◌then◌else◌, List, Option, None, Some, is_some, refl}
+use Rattle.std.specs.Prelude.{ℕ, ◌==◌, nat_lt, Bool, true, false, not, ◌&&◌, ◌||◌, if◌then◌else◌, List, Option, None, Some, is_some, refl}
 use Rattle.std.specs.List.{list_any}
-use Rattle.std.specs.Coded.{Coded, code_by, coded×, coded_ℕ, coded_bool, coded_list, coded_option}
+use Rattle.std.specs.Coded.{Coded, code_by, coded×, coded_ℕ, coded_bool, coded_list}
 use base.Stored.{coded_unit}
 use Rattle.std.specs.FinMap as finite
 use Rattle.std.specs.FinMap.{FinMap}
@@ -17,13 +17,18 @@ use Rattle.someip_audit.specs.declared.finding.Finding.TheVariants.{EndpointsFul
 abbrev pub Learnt : Type 0
 Learnt = FinMap endpoint_cmp (Unit {0})
 
--- the ports that are looked at, if these are named; else the endpoints that were learnt, how many may be, and whether it was told
--- that no more may
+-- the ports that are looked at, whether endpoints are learnt, how many may be, those that were, and whether it was told that no
+-- more may
 pub record Watch : Type 0 where
-  pub ports : Option (List ℕ)
+  pub ports : List ℕ
+  pub learns : Bool
   pub limit : ℕ
   pub learnt : Learnt
   pub told_full : Bool
+
+-- before anything was learnt
+abbrev pub watch_begun : List ℕ → Bool → ℕ → Watch
+watch_begun ports learns limit = record { ports = ports; learns = learns; limit = limit; learnt = finite.empty; told_full = false }
 
 -- ---- which datagrams are looked at
 
@@ -39,20 +44,19 @@ is_at_ports ports origin = list_any (λ port. port == v4_port origin.from) ports
 abbrev pub is_at_learnt : Learnt → Origin → Bool
 is_at_learnt learnt origin = is_some (finite.get learnt origin.from) || is_some (finite.get learnt origin.to)
 
--- by the ports where these are named, and else by the endpoints
-abbrev pub is_asked : Option (List ℕ) → Learnt → Origin → Bool
-is_asked None learnt origin = is_at_learnt learnt origin
-is_asked (Some ports) learnt origin = is_at_ports ports origin
+-- by the ports or by the endpoints
+abbrev pub is_asked : Watch → Origin → Bool
+is_asked watched origin = is_at_ports watched.ports origin || is_at_learnt watched.learnt origin
 
 -- a datagram is looked at
 abbrev pub is_looked_at : Watch → Origin → Bool
-is_looked_at watched origin = is_at_discovery origin || is_asked watched.ports watched.learnt origin
+is_looked_at watched origin = is_at_discovery origin || is_asked watched origin
 
 -- ---- what is learnt
 
--- an endpoint is passed over: ports are named, or it was learnt before
+-- an endpoint is passed over: none is learnt, or it was before
 abbrev pub is_passed_over : SocketAddrV4 → Watch → Bool
-is_passed_over endpoint watched = is_some watched.ports || is_some (finite.get watched.learnt endpoint)
+is_passed_over endpoint watched = not watched.learns || is_some (finite.get watched.learnt endpoint)
 
 -- what is told of an endpoint that an entry names
 abbrev pub told_of_endpoint : SocketAddrV4 → Watch → Option Finding
@@ -75,6 +79,7 @@ needs_memory endpoint watched = not (is_passed_over endpoint watched) && nat_lt 
 
 abbrev pub coded_watch : Coded Watch
 coded_watch =
-    code_by (Option (List ℕ) × (ℕ × (Learnt × Bool)))
-    (coded× (coded_option (coded_list coded_ℕ)) (coded× coded_ℕ (coded× (finite.code coded_endpoint coded_unit) coded_bool)))
-    (λ w. (w.ports, (w.limit, (w.learnt, w.told_full)))) (λ c. record { ports = c.0; limit = c.1.0; learnt = c.1.1.0; told_full = c.1.1.1 }) (λ _. refl)
+    code_by ((List ℕ × Bool) × (ℕ × (Learnt × Bool)))
+    (coded× (coded× (coded_list coded_ℕ) coded_bool) (coded× coded_ℕ (coded× (finite.code coded_endpoint coded_unit) coded_bool)))
+    (λ w. ((w.ports, w.learns), (w.limit, (w.learnt, w.told_full))))
+    (λ c. record { ports = c.0.0; learns = c.0.1; limit = c.1.0; learnt = c.1.1.0; told_full = c.1.1.1 }) (λ _. refl)

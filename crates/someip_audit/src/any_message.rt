@@ -83,14 +83,17 @@ impl<S: Reassembly> Books<S> {
 }
 
 /// Whether a message is one of Service Discovery.
-fn is_sd(origin: &Origin, header: &Header) -> bool
+pub(crate) fn is_sd(origin: &Origin, header: &Header) -> bool
     ensures { result ≡ is_sd origin.now header.now }
 {
     is_at_discovery(origin) && header.is_discovery()
 }
 
 /// Reads a payload, and keeps want of memory apart.
-fn read_payload(alloc: Global, payload: &[u8]) -> Result<Result<SdRead, SdError>, AllocError>
+pub(crate) fn read_payload(
+    alloc: Global,
+    payload: &[u8],
+) -> Result<Result<SdRead, SdError>, AllocError>
     ensures { IfOk result (λ found. result_map_both view_sd (λ e. e) found ≡ reading payload.now) }
 {
     SdError::apart(read_sd(alloc, payload))

@@ -1,5 +1,5 @@
 //! The audit of a recording.
-ghost use Rattle.std.specs.Prelude.{◌≡◌, true, IfOk, IfSome, IfNone, OnErr, OnOk, option_map};
+ghost use Rattle.std.specs.Prelude.{◌≡◌, true, IfOk, IfSome, IfNone, OnErr, OnOk};
 ghost use Rattle.std.specs.Ordering.{is_le};
 ghost use Rattle.someip_wire.specs.Reading.{items_of};
 ghost use Rattle.someip_audit.specs.AnyShown.{items_shown, message_count};
@@ -12,6 +12,7 @@ use crate::books::Books;
 use crate::fell_due::FellDue;
 use crate::finding::Finding;
 use crate::rules::AuditRules;
+use crate::watched::WatchRules;
 use someip_reassembly::Reassembly;
 use someip_tables::Moment;
 use someip_tables::hashed::Origin;
@@ -41,19 +42,18 @@ impl<S: Reassembly> Model for Audit<S> {
 
 impl<S: Reassembly> Audit<S> {
     /// An audit that saw nothing, of a recording that begins now. Datagrams from and to port 30490 are
-    /// looked at, and beside it those at these ports; where no ports are named, those at the endpoints
-    /// that the Offers and Subscribes so far named.
+    /// looked at, and beside it those that are to be watched.
     pub fn begin(
         alloc: Global,
         rules: &AuditRules,
-        ports: Option<&[u16]>,
+        watch: &WatchRules<'_>,
         now: Moment,
     ) -> Result<Audit<S>, AllocError>
         ensures { IfOk result (λ audit. audit
-            ≡ audit_begun rules.now (option_map (λ ports. ports.now) ports.entry) now) }
+            ≡ audit_begun rules.now watch.now.ports.now watch.now.learns now) }
     {
         Ok(Audit {
-            books: Books::make(alloc, rules, ports, now)?,
+            books: Books::make(alloc, rules, watch, now)?,
             bytes: Vec::new(alloc),
         })
     }

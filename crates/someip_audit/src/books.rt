@@ -1,5 +1,5 @@
 //! The books of one audit.
-ghost use Rattle.std.specs.Prelude.{◌≡◌, true, IfOk, IfSome, IfNone, option_map};
+ghost use Rattle.std.specs.Prelude.{◌≡◌, true, IfOk, IfSome, IfNone};
 ghost use Rattle.std.specs.Ordering.{is_le};
 ghost use Rattle.someip_audit.specs.BooksHeld.{empty_held, moment_after};
 ghost use Rattle.someip_audit.specs.FellDues.{IsDue, after_due, fell_cmp};
@@ -8,7 +8,7 @@ ghost use Rattle.someip_audit.specs.declared.fell_due.FellDue.{FellDue};
 use crate::fell_due::FellDue;
 use crate::rules::AuditRules;
 use crate::soonest::{earlier, is_at, soonest};
-use crate::watched::Watched;
+use crate::watched::{WatchRules, Watched};
 use audit_sd::offers::OfferBook;
 use audit_sd::receivers::ReceiverBook;
 use audit_sd::sessions::SessionBook;
@@ -54,18 +54,17 @@ impl<S: Reassembly> Model for Books<S> {
 }
 
 impl<S: Reassembly> Books<S> {
-    /// Books that saw nothing, of a recording that begins now; the ports that are looked at, if these are
-    /// named.
+    /// Books that saw nothing, of a recording that begins now; which datagrams are looked at.
     pub(crate) fn make(
         alloc: Global,
         rules: &AuditRules,
-        ports: Option<&[u16]>,
+        watch: &WatchRules<'_>,
         now: Moment,
     ) -> Result<Books<S>, AllocError>
         ensures { IfOk result (λ books. books
-            ≡ empty_held rules.now (option_map (λ ports. ports.now) ports.entry) now) }
+            ≡ empty_held rules.now watch.now.ports.now watch.now.learns now) }
     {
-        let watched = Watched::new(alloc, ports, rules.limit)?;
+        let watched = Watched::new(alloc, watch, rules.limit)?;
         let segments = SegmentBook::make(alloc, rules.segments)?;
         let calls = CallRules {
             limit: rules.limit,

@@ -6,7 +6,7 @@ ghost use Rattle.audit_sd.specs.declared.subscriptions.key.SubscriptionKey.{Subs
 ghost use Rattle.audit_traffic.specs.declared.events.flow.EventFlow.{EventFlow};
 ghost use Rattle.audit_traffic.specs.events.EventRules.{disturbed, is_between};
 ghost use Rattle.audit_traffic.specs.events.EventTables.{Events};
-ghost use Rattle.someip_audit.specs.Audits.{AuditState, Audits, Report, Seen, each_disturbed};
+ghost use Rattle.someip_audit.specs.Audits.{AuditState, Audits, Report, Seen, datagram_shown, each_disturbed};
 ghost use Rattle.std.specs.FinMap as finite;
 ghost use Rattle.std.specs.Ordering.{is_lt};
 ghost use Rattle.sd_wire.specs.declared.entry.ServiceKind.TheVariants.{Find, Offer};
@@ -22,8 +22,9 @@ ghost use Rattle.sd_wire.specs.declared.error.SdError.TheVariants as faults;
 ghost use Rattle.someip_tables.specs.declared.hashed.origin.Origin.{Origin};
 ghost use Rattle.someip_audit.specs.declared.finding.Finding.TheVariants as findings;
 ghost use Rattle.someip_audit.specs.AnyShown.{is_sd, items_shown, message_count, payload_shown};
+ghost use Rattle.someip_audit.specs.Learning.{learnt_in, named_by};
 ghost use Rattle.someip_audit.specs.WatchedEndpoints.{Watch, is_at_learnt, is_looked_at, once_named, told_of_endpoint};
-ghost use Rattle.someip_audit.specs.SdScenes.{once_told, segment_with, sent_from, watch_of};
+ghost use Rattle.someip_audit.specs.SdScenes.{once_told, segment_with, sent_from, at_40000};
 ghost use Rattle.someip_audit.specs.BooksHeld.{Held};
 ghost use Rattle.someip_audit.specs.FellDues.{fell_cmp};
 ghost use Rattle.someip_audit.specs.MessageShown.{event_flow, event_shown, flow_shown, is_event, message_shown};
@@ -113,39 +114,55 @@ pub fn offers_and_subscribes_name_endpoints()
     ensures ack { names_endpoint (Eventgroup (group_entry groups.Ack 3)) ≡ false }
 {}
 
-/// Which datagrams are looked at, by example: from or to port 30490; where ports are named, from or to
-/// these; and else exactly those at an endpoint that was learnt, by address and port.
+/// Which datagrams are looked at, by example: from or to port 30490; from or to a port that is named; and
+/// beside these exactly those at an endpoint that was learnt, by address and port.
 pub fn datagrams_are_looked_at()
     ensures discovery { (watch : Watch) → is_looked_at watch (sent_from 1 30490 2 40000) ≡ true }
     ensures to_discovery { (watch : Watch) → is_looked_at watch (sent_from 1 40000 2 30490) ≡ true }
-    ensures at_port { is_looked_at (watch_of (Some (40000 ∷ [])) 4) (sent_from 1 40000 2 40001) ≡ true }
-    ensures to_port { is_looked_at (watch_of (Some (40000 ∷ [])) 4) (sent_from 1 40001 2 40000) ≡ true }
-    ensures other_port { is_looked_at (watch_of (Some (40000 ∷ [])) 4) (sent_from 1 40001 2 40002) ≡ false }
-    ensures learnt { (watch : Watch) → watch.ports ≡ None
+    ensures at_port { is_looked_at at_40000 (sent_from 1 40000 2 40001) ≡ true }
+    ensures to_port { is_looked_at at_40000 (sent_from 1 40001 2 40000) ≡ true }
+    ensures other_port { is_looked_at at_40000 (sent_from 1 40001 2 40002) ≡ false }
+    ensures learnt { (watch : Watch) → watch.ports ≡ []
         → is_looked_at watch (sent_from 1 40001 2 40000) ≡ is_at_learnt watch.learnt (sent_from 1 40001 2 40000) }
 {}
 
 /// What an endpoint does that an entry names: it is learnt, where one more may be; and that no more may
-/// be is told once. Where ports are named nothing is learnt.
+/// be is told once. Where nothing is to be learnt nothing is.
 pub fn endpoints_are_learnt()
-    ensures learnt { (watch : Watch) → watch.ports ≡ None → finite.get watch.learnt (endpoint 1 40000) ≡ None
+    ensures learnt { (watch : Watch) → watch.learns ≡ true → finite.get watch.learnt (endpoint 1 40000) ≡ None
         → nat_lt (finite.len watch.learnt) watch.limit ≡ true → once_named (endpoint 1 40000) watch
         ≡ record watch { learnt = finite.insert watch.learnt (endpoint 1 40000) tt } }
-    ensures full { (watch : Watch) → watch.ports ≡ None → finite.get watch.learnt (endpoint 1 40000) ≡ None
+    ensures full { (watch : Watch) → watch.learns ≡ true → finite.get watch.learnt (endpoint 1 40000) ≡ None
         → nat_lt (finite.len watch.learnt) watch.limit ≡ false → watch.told_full ≡ false
         → told_of_endpoint (endpoint 1 40000) watch ≡ Some findings.EndpointsFull }
     ensures once { (watch : Watch) → watch.told_full ≡ true → told_of_endpoint (endpoint 1 40000) watch ≡ None }
-    ensures ports { (watch : Watch) → watch.ports ≡ Some (40000 ∷ []) → once_named (endpoint 1 40000) watch ≡ watch }
+    ensures nothing { (watch : Watch) → watch.learns ≡ false → once_named (endpoint 1 40000) watch ≡ watch }
+{}
+
+/// What one entry teaches, by example: an Offer and a Subscribe the endpoint that they name, and a StopOffer
+/// nothing.
+pub fn entries_teach_endpoints()
+    ensures offer { named_by (with_endpoint (service_entry Offer 3) 1 40000) ≡ Some (endpoint 1 40000) }
+    ensures stop_offer { named_by (with_endpoint (service_entry Offer 0) 1 40000) ≡ None }
+{}
+
+/// Whoever learns from a datagram what it names has learnt what an audit learns that looks at it.
+pub fn an_audit_learns_what_a_datagram_names()
+    ensures { (seen : Seen) (work : Work) → (datagram_shown seen work).held.watched
+        ≡ learnt_in seen.origin seen.bytes work.held.watched }
 {}
 
 /// What is told of faults, whatever the books hold: the place of a fault of Service Discovery counts from
-/// the first byte of its datagram; a segment whose payload has no room for its TP header is told; the
+/// the first byte of its datagram; a segment whose payload has no room for its TP header is told, but none
+/// from or to the port of Service Discovery; the
 /// fault that ends a datagram comes after what its messages show.
 pub fn faults_are_told()
     ensures discovery { (work : Work) → payload_shown 100 (from_node 1 1) 16 1 (Err (faults.OptionLength 44)) work
         ≡ once_told (findings.MalformedSd (faults.OptionLength 60)) work }
-    ensures segment { (work : Work) → message_shown 100 (datagram 1 2 9) 16 (segment_with (1 ∷ 2 ∷ 3 ∷ [])) work
+    ensures segment { (work : Work) → message_shown 100 (sent_from 1 40000 2 40001) 16 (segment_with (1 ∷ 2 ∷ 3 ∷ [])) work
         ≡ once_told (findings.NoTpHeader 16) work }
+    ensures at_discovery { (work : Work) → message_shown 100 (sent_from 1 40000 2 30490) 16
+        (segment_with (1 ∷ 2 ∷ 3 ∷ [])) work ≡ work }
     ensures datagram { (work : Work) → items_shown 100 (datagram 1 2 9) 0 (Err (Truncated 7) ∷ []) work
         ≡ once_told (findings.Malformed (Truncated 7)) work }
     ensures counted { message_count (Ok (segment_with []) ∷ Err (Truncated 19) ∷ []) ≡ 1 }

@@ -1,6 +1,9 @@
 //! What a recording shows against the protocol, over the books of the kinds of findings.
 //!
-//! - [`Audit`]: what goes over a recording, over any body of `Reassembly`; [`AuditRules`]: its settings;
+//! - [`Audit`]: what goes over a recording, over any body of `Reassembly`; [`AuditRules`]: its settings, and
+//!   [`WatchRules`]: which datagrams are looked at;
+//! - [`Learner`]: the endpoints that a recording names, and which datagrams are looked at for them, where nothing
+//!   is audited;
 //! - [`Finding`]: what a datagram shows; [`FellDue`]: what falls due between datagrams;
 //! - [`laws`]: the definitions behind the contracts, by example.
 #![tactic(auto)]
@@ -15,6 +18,7 @@ mod expiry;
 mod fell_due;
 mod finding;
 pub mod laws;
+mod learner;
 mod messages;
 mod rules;
 mod soonest;
@@ -23,4 +27,6 @@ mod watched;
 pub use audit::Audit;
 pub use fell_due::FellDue;
 pub use finding::Finding;
+pub use learner::Learner;
 pub use rules::AuditRules;
+pub use watched::WatchRules;

@@ -13,6 +13,7 @@ ghost use Rattle.someip_audit.specs.SdShown.{IsBegun, working};
 use crate::books::Books;
 use crate::discovery::tell;
 use crate::finding::Finding;
+use crate::watched::is_at_discovery;
 use audit_sd::receivers::Delivery;
 use audit_traffic::events::{EventFlow, Notification};
 use audit_traffic::segments::SegmentTold;
@@ -26,7 +27,8 @@ use std::net::SocketAddrV4;
 impl<S: Reassembly> Books<S> {
     /// Takes note of a message that is none of Service Discovery, and appends what it shows: a whole one of
     /// its call, of who is subscribed to its event, and by its event's session; a segment why it is
-    /// refused, or what its message shows once it is whole. Its payload begins at a place of its datagram.
+    /// refused, or what its message shows once it is whole, unless it goes from or to the port of Service
+    /// Discovery, where messages are not put together. Its payload begins at a place of its datagram.
     /// `bytes` is room for the payload of a message in segments. Where memory runs out, what was appended
     /// is a beginning of that, and nothing else is promised.
     pub(crate) fn saw_message(
@@ -43,11 +45,13 @@ impl<S: Reassembly> Books<S> {
         ensures err { OnErr result (IsBegun findings.old.items findings.new.items
             (message_shown now origin.now place (view message.now) (working self.old findings.old.items)).told) }
     {
-        if message.header.kind.has_tp_flag() {
-            self.saw_segment(now, origin, place, message, bytes, findings)
-        } else {
-            self.saw_whole(now, origin, message, findings)
+        if !message.header.kind.has_tp_flag() {
+            return self.saw_whole(now, origin, message, findings);
         }
+        if is_at_discovery(origin) {
+            return Ok(());
+        }
+        self.saw_segment(now, origin, place, message, bytes, findings)
     }
 
     /// A segment comes.
@@ -86,10 +90,7 @@ impl<S: Reassembly> Books<S> {
         ensures err { OnErr result (IsBegun findings.old.items findings.new.items
             (piece_shown now origin.now (view message.now) (working self.old findings.old.items)).told) }
     {
-        let k = origin.datagram;
-        let told = self
-            .segments
-            .saw(now, k, origin.from, origin.to, message, bytes)?;
+        let told = self.segments.saw(now, origin.numbers, origin.from, origin.to, message, bytes)?;
         match told {
             SegmentTold::Nothing => Ok(()),
             SegmentTold::Refused(refusal) => {
@@ -138,8 +139,10 @@ impl<S: Reassembly> Books<S> {
             (working self.old findings.old.items)) }
         ensures err { OnErr result (findings.new.items ≡ findings.old.items) }
     {
-        let k = origin.datagram;
-        match self.calls.saw(now, k, origin.from, origin.to, message)? {
+        match self
+            .calls
+            .saw(now, origin.numbers, origin.from, origin.to, message)?
+        {
             Some(shown) => tell(findings, Finding::Call(message.header, shown)),
             None => Ok(()),
         }

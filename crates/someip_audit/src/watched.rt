@@ -1,10 +1,10 @@
 //! At which ports and endpoints datagrams are looked at.
-ghost use Rattle.std.specs.Prelude.{◌≡◌, IfOk, OnErr, is_some, nat_lt, true, false, option_map};
+ghost use Rattle.std.specs.Prelude.{◌≡◌, IfOk, OnErr, nat_lt, true};
 ghost use Rattle.std.specs.FinMap as finite;
 ghost use Rattle.someip_tables.specs.Endpoints.{endpoint_cmp};
 ghost use Rattle.someip_tables.specs.Tables.{map_of};
-ghost use Rattle.someip_audit.specs.WatchedEndpoints.{is_asked, is_at_discovery, is_looked_at};
-ghost use Rattle.someip_audit.specs.WatchedEndpoints.{is_passed_over, needs_memory, once_named, told_of_endpoint};
+ghost use Rattle.someip_audit.specs.WatchedEndpoints.{is_asked, is_at_discovery, is_looked_at, is_passed_over};
+ghost use Rattle.someip_audit.specs.WatchedEndpoints.{needs_memory, once_named, told_of_endpoint, watch_begun};
 
 use crate::finding::Finding;
 use someip_tables::hashed::{KeySet, Origin, Room};
@@ -18,17 +18,26 @@ const DISCOVERY_PORT: u16 = 30490;
 /// The endpoints that were learnt.
 type Learnt = KeySet<SocketAddrV4>;
 
+/// Which datagrams are looked at beside those from and to the port of Service Discovery.
+#[derive(Clone, Copy)]
+pub struct WatchRules<'a> {
+    /// Those from or to one of these ports.
+    pub ports: &'a [u16],
+    /// Whether also those from or to an endpoint that an Offer or a Subscribe named before.
+    pub learns: bool,
+}
+
 /// At which ports and endpoints datagrams are looked at beside the port of Service Discovery: at these
-/// ports, where they are named, and else at the endpoints that were learnt.
+/// ports, and at the endpoints that were learnt.
 #[derive(Drop)]
 pub(crate) struct Watched {
-    ports: Option<Vec<u16>>,
+    ports: Vec<u16>,
+    learns: bool,
     room: Room,
     learnt: Learnt,
 }
 
 impl Model for Watched {
-    ghost use Rattle.std.specs.Prelude.{option_map};
     ghost use Rattle.someip_tables.specs.Endpoints.{endpoint_cmp};
     ghost use Rattle.someip_tables.specs.Tables.{map_of};
     ghost use Rattle.someip_audit.specs.WatchedEndpoints.{Watch, coded_watch};
@@ -38,7 +47,8 @@ impl Model for Watched {
     ghost coded = { coded_watch };
 
     ghost view = { λ w. record {
-      ports = option_map (λ ports. ports.items) w.ports;
+      ports = w.ports.items;
+      learns = w.learns;
       limit = w.room.limit;
       learnt = map_of endpoint_cmp w.learnt;
       told_full = w.room.told_full;
@@ -49,22 +59,14 @@ impl Watched {
     /// Before anything was learnt.
     pub(crate) fn new(
         alloc: Global,
-        ports: Option<&[u16]>,
+        rules: &WatchRules<'_>,
         limit: usize,
     ) -> Result<Watched, AllocError>
-        ensures { IfOk result (λ watched. watched ≡ record {
-          ports = option_map (λ ports. ports.now) ports.entry;
-          limit = limit;
-          learnt = finite.empty;
-          told_full = false;
-        }) }
+        ensures { IfOk result (λ watched. watched ≡ watch_begun rules.now.ports.now rules.now.learns limit) }
     {
-        let ports = match ports {
-            Some(ports) => Some(ports.to_vec(alloc)?),
-            None => None,
-        };
         Ok(Watched {
-            ports,
+            ports: rules.ports.to_vec(alloc)?,
+            learns: rules.learns,
             room: Room::new(limit),
             learnt: KeySet::new(alloc),
         })
@@ -79,14 +81,19 @@ impl Watched {
 
     /// Whether it is by the ports, or by the endpoints.
     fn is_asked(&self, origin: &Origin) -> bool
-        ensures { result ≡ is_asked self.now.ports self.now.learnt origin.now }
+        ensures { result ≡ is_asked self.now origin.now }
     {
-        match &self.ports {
-            Some(ports) => {
-                ports.contains(&origin.from.port()) || ports.contains(&origin.to.port())
-            }
-            None => self.learnt.contains(&origin.from) || self.learnt.contains(&origin.to),
-        }
+        self.ports.contains(&origin.from.port())
+            || self.ports.contains(&origin.to.port())
+            || self.learnt.contains(&origin.from)
+            || self.learnt.contains(&origin.to)
+    }
+
+    /// Whether it was told that no more may be learnt.
+    pub(crate) fn is_full(&self) -> bool
+        ensures { result ≡ self.now.told_full }
+    {
+        self.room.told_full
     }
 
     /// Learns an endpoint that an Offer or a Subscribe names, or says once that no more may be learnt.
@@ -110,7 +117,7 @@ impl Watched {
     fn passes_over(&self, endpoint: &SocketAddrV4) -> bool
         ensures { result ≡ is_passed_over endpoint.now self.now }
     {
-        self.ports.is_some() || self.learnt.contains(endpoint)
+        !self.learns || self.learnt.contains(endpoint)
     }
 }
 

@@ -70,21 +70,26 @@ abbrev pub with_whole : App → App
 with_whole command =
     with_rule (with_rule (with_rule (with_rule command (flag (codes "whole"))) (valued (codes "whole-limit"))) (valued (codes "whole-slots"))) (valued (codes "whole-timeout"))
 
--- the command with the options that choose datagrams by their addresses, their client and their times
+-- the command with the options that choose by addresses, client and times, and that which learns endpoints
 abbrev pub with_choice : App → App
 with_choice command =
-    with_rule (with_rule (with_rule (with_rule command (valued (codes "address"))) (valued (codes "client"))) (valued (codes "from"))) (valued (codes "until"))
+    with_rule (with_rule (with_rule (with_rule (with_rule command (valued (codes "address"))) (valued (codes "client"))) (valued (codes "from"))) (valued (codes "until")))
+    (flag (codes "learned"))
 
 -- the command with the options that choose packets
 abbrev pub with_packets : App → App
 with_packets command = with_rule (with_rule (with_rule command (valued (codes "interface"))) (valued (codes "vlan"))) (valued (codes "dedup"))
+
+-- the command with the options that number and choose the lines of findings
+abbrev pub with_findings : App → App
+with_findings command = with_rule (with_rule command (flag (codes "frames"))) (valued (codes "service"))
 
 -- the command with the options that say what stands before each line
 abbrev pub with_heads : App → App
 with_heads command = with_rule (with_rule command (flag (codes "frames"))) (flag (codes "endpoints"))
 
 -- `recording [--ports PORTS] [--frames] [--endpoints] [--service SERVICES] [--types FILE] [--address A] [--client C]
--- [--from TIME] [--until TIME] [--interface N] [--vlan ID] [--dedup MS] [--whole] [--whole-limit N]
+-- [--from TIME] [--until TIME] [--learned] [--interface N] [--vlan ID] [--dedup MS] [--whole] [--whole-limit N]
 -- [--whole-slots N] [--whole-timeout MS] FILE..`
 abbrev pub recording_options : App
 recording_options = with_whole (with_packets (with_choice (with_filters (with_heads (with_rule (new_app (codes "recording")) (valued (codes "ports")))))))
@@ -96,9 +101,13 @@ recording_usage = (with_rule recording_options (required_many (codes "file"))).t
 abbrev pub chart_usage : Shape
 chart_usage = (with_inputs (new_app (codes "chart"))).top
 
--- `audit [--ports PORTS] [--answer-ms N] [--settle-ms N] [--interface N] [--vlan ID] [--dedup MS] FILE..`
+-- `audit [--ports PORTS] [--answer-ms N] [--settle-ms N] [--frames] [--service SERVICES] [--address A] [--client C]
+-- [--from TIME] [--until TIME] [--learned] [--interface N] [--vlan ID] [--dedup MS] FILE..`
+abbrev pub audit_settings : App
+audit_settings = with_rule (with_rule (with_rule (new_app (codes "audit")) (valued (codes "ports"))) (valued (codes "answer-ms"))) (valued (codes "settle-ms"))
+
 abbrev pub audit_options : App
-audit_options = with_packets (with_rule (with_rule (with_rule (new_app (codes "audit")) (valued (codes "ports"))) (valued (codes "answer-ms"))) (valued (codes "settle-ms")))
+audit_options = with_packets (with_choice (with_findings audit_settings))
 
 abbrev pub audit_usage : Shape
 audit_usage = (with_rule audit_options (required_many (codes "file"))).top
@@ -127,12 +136,13 @@ pub record PacketRequest : Type 0 where
   pub vlan : Option Text
   pub dedup : Option Text
 
--- those that choose datagrams by their addresses, their client and their times
+-- those that choose by addresses, client and times, and that which learns endpoints
 pub record ChoiceRequest : Type 0 where
   pub address : Option Text
   pub client : Option Text
   pub from : Option Text
   pub until : Option Text
+  pub learned : Bool
 
 -- the options of `recording`
 pub record RecordingRequest : Type 0 where
@@ -151,7 +161,10 @@ pub record RecordingRequest : Type 0 where
 -- the options of `audit`
 pub record AuditRequest : Type 0 where
   pub packets : PacketRequest
+  pub choice : ChoiceRequest
   pub ports : Option Text
+  pub frames : Bool
+  pub service : Option Text
   pub answer_ms : Option Text
   pub settle_ms : Option Text
 
@@ -177,7 +190,7 @@ abbrev pub asked_by_packets : PacketOptions → PacketRequest
 asked_by_packets o = record { interface = text_at o.interface; vlan = text_at o.vlan; dedup = text_at o.dedup }
 
 abbrev pub asked_by_choice : ChoiceOptions → ChoiceRequest
-asked_by_choice o = record { address = text_at o.address; client = text_at o.client; from = text_at o.from; until = text_at o.until }
+asked_by_choice o = record { address = text_at o.address; client = text_at o.client; from = text_at o.from; until = text_at o.until; learned = o.learned }
 
 abbrev pub asked_by_options : RecordingOptions → RecordingRequest
 asked_by_options o = record {
@@ -197,7 +210,10 @@ asked_by_options o = record {
 abbrev pub asked_by_audit_options : AuditOptions → AuditRequest
 asked_by_audit_options o = record {
   packets = asked_by_packets o.packets;
+  choice = asked_by_choice o.choice;
   ports = text_at o.ports;
+  frames = o.frames;
+  service = text_at o.service;
   answer_ms = text_at o.answer_ms;
   settle_ms = text_at o.settle_ms;
 }
@@ -256,14 +272,14 @@ abbrev pub no_packets : PacketRequest
 no_packets = packet_options_of None None None
 
 -- those that choose datagrams
-abbrev pub choice_options_of : (address client from until : Option Text) → ChoiceRequest
-choice_options_of address client from until = record { address = address; client = client; from = from; until = until }
+abbrev pub choice_options_of : (address client from until learned : Option Text) → ChoiceRequest
+choice_options_of address client from until learned = record { address = address; client = client; from = from; until = until; learned = is_on learned }
 
 abbrev pub no_choice : ChoiceRequest
-no_choice = choice_options_of None None None None
+no_choice = choice_options_of None None None None None
 
 abbrev pub choice_options_by : (Text → Option Text) → ChoiceRequest
-choice_options_by value = choice_options_of (value (codes "address")) (value (codes "client")) (value (codes "from")) (value (codes "until"))
+choice_options_by value = choice_options_of (value (codes "address")) (value (codes "client")) (value (codes "from")) (value (codes "until")) (value (codes "learned"))
 
 -- the options of `recording`, by what each matched
 abbrev pub recording_options_of : PacketRequest → ChoiceRequest → (ports frames endpoints service types whole limit slots timeout : Option Text) → RecordingRequest
@@ -296,11 +312,21 @@ abbrev pub asked_by_chart : (Text → Option Text) → Option Request
 asked_by_chart value = option_and_then (λ setup. option_map (chart_request setup) (value (codes "schedule"))) (value (codes "setup"))
 
 -- the options of `audit`, by what each matched
-abbrev pub audit_options_of : PacketRequest → (ports answer_ms settle_ms : Option Text) → AuditRequest
-audit_options_of packets ports answer_ms settle_ms = record { packets = packets; ports = ports; answer_ms = answer_ms; settle_ms = settle_ms }
+abbrev pub audit_options_of : PacketRequest → ChoiceRequest → (ports frames service answer_ms settle_ms : Option Text) → AuditRequest
+audit_options_of packets choice ports frames service answer_ms settle_ms = record {
+  packets = packets;
+  choice = choice;
+  ports = ports;
+  frames = is_on frames;
+  service = service;
+  answer_ms = answer_ms;
+  settle_ms = settle_ms;
+}
 
 abbrev pub audit_options_by : (Text → Option Text) → AuditRequest
-audit_options_by value = audit_options_of (packet_options_by value) (value (codes "ports")) (value (codes "answer-ms")) (value (codes "settle-ms"))
+audit_options_by value =
+    audit_options_of (packet_options_by value) (choice_options_by value)
+    (value (codes "ports")) (value (codes "frames")) (value (codes "service")) (value (codes "answer-ms")) (value (codes "settle-ms"))
 
 -- what `audit` asks for
 abbrev pub asked_by_audit : (Text → Option Text) → (Text → List Text) → Option Request

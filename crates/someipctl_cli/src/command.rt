@@ -96,7 +96,8 @@ pub struct PacketOptions<'w> {
     pub dedup: Option<&'w str>,
 }
 
-/// The options that choose datagrams of recordings by their addresses, their client and their times.
+/// The options that choose datagrams of recordings, or findings of an audit, by their addresses, their client and
+/// their times; and whether endpoints are learned.
 #[derive(Clone, Copy, PartialEq, Eq)]
 pub struct ChoiceOptions<'w> {
     /// The text of the addresses whose datagrams are asked for. None asks for all.
@@ -107,6 +108,8 @@ pub struct ChoiceOptions<'w> {
     pub from: Option<&'w str>,
     /// The text of the time before which they are.
     pub until: Option<&'w str>,
+    /// Whether only what is at port 30490, at the ports or at endpoints that were named before is looked at.
+    pub learned: bool,
 }
 
 /// The options of `audit`.
@@ -114,8 +117,14 @@ pub struct ChoiceOptions<'w> {
 pub struct AuditOptions<'w> {
     /// Which packets are looked at.
     pub packets: PacketOptions<'w>,
+    /// Which findings are told, beside services.
+    pub choice: ChoiceOptions<'w>,
     /// The text of the ports that are looked at. None looks at the endpoints that are learnt.
     pub ports: Option<&'w str>,
+    /// Whether each line is to begin with the number of its packet.
+    pub frames: bool,
+    /// The text of the services whose findings are told. None tells all.
+    pub service: Option<&'w str>,
     /// The text of how many milliseconds an answer may take.
     pub answer_ms: Option<&'w str>,
     /// The text of for how many milliseconds no event without a subscription is told.
@@ -335,6 +344,7 @@ fn choice_matched<'w>(matches: &ArgMatches<'w>) -> ChoiceOptions<'w>
         client: matches.get_str("client"),
         from: matches.get_str("from"),
         until: matches.get_str("until"),
+        learned: is_given(matches, "learned"),
     }
 }
 
@@ -386,7 +396,10 @@ fn audit_options_matched<'w>(matches: &ArgMatches<'w>) -> AuditOptions<'w>
 {
     AuditOptions {
         packets: packets_matched(matches),
+        choice: choice_matched(matches),
         ports: matches.get_str("ports"),
+        frames: is_given(matches, "frames"),
+        service: matches.get_str("service"),
         answer_ms: matches.get_str("answer-ms"),
         settle_ms: matches.get_str("settle-ms"),
     }

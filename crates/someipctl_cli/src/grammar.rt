@@ -8,7 +8,7 @@ ghost use Rattle.clap.specs.declared.builder.Command.TheViews.{out-Command};
 ghost use Rattle.someipctl_cli.specs.CommandLine.{audit_usage, chart_usage, cli, encode_usage, payload_usage, program};
 ghost use Rattle.someipctl_cli.specs.CommandLine.{recording_usage, run_usage, show_usage, vectors_usage};
 ghost use Rattle.someipctl_cli.specs.CommandLine.{flag as flag_rule, required, required_many, valued};
-ghost use Rattle.someipctl_cli.specs.CommandLine.{with_choice, with_filters, with_heads, with_inputs, with_packets};
+ghost use Rattle.someipctl_cli.specs.CommandLine.{with_choice, with_filters, with_findings, with_heads, with_inputs, with_packets};
 ghost use Rattle.someipctl_cli.specs.CommandLine.{with_whole};
 
 use crate::examples::{
@@ -171,7 +171,7 @@ fn audit_definition<'d>(alloc: Global) -> Result<clap::Command<'d>, AllocError>
         alloc,
         "ports",
         "PORTS",
-        "Looks at these ports beside 30490, and learns none from Offers and Subscribes",
+        "Looks at these ports beside 30490, and learns none from Offers and Subscribes without --learned",
     );
     let answer = valued_option(
         alloc,
@@ -187,8 +187,32 @@ fn audit_definition<'d>(alloc: Global) -> Result<clap::Command<'d>, AllocError>
     );
     let first = taking(Ok(command), ports);
     let second = taking(first, answer);
-    let third = add_packets(alloc, taking(second, settle));
-    taking(third, files(alloc))
+    let third = add_findings(alloc, taking(second, settle));
+    taking(add_packets(alloc, add_choice(alloc, third)), files(alloc))
+}
+
+/// The command with the options that number and choose the lines of findings.
+fn add_findings<'d>(
+    alloc: Global,
+    command: Result<clap::Command<'d>, AllocError>,
+) -> Result<clap::Command<'d>, AllocError>
+    ensures app { (app : App) → IfOk command.entry (λ c. app_of c ≡ app)
+        → IfOk result (λ r. app_of r ≡ with_findings app) }
+    ensures local { IfOk command.entry (λ c. (out-Command c).has_globals ≡ false)
+        → IfOk result (λ r. (out-Command r).has_globals ≡ false) }
+{
+    let frames = flag(
+        alloc,
+        "frames",
+        "Puts the number of its packet before each line",
+    );
+    let service = valued_option(
+        alloc,
+        "service",
+        "SERVICES",
+        "Prints only findings of one of these services",
+    );
+    taking(taking(command, frames), service)
 }
 
 /// The command with the two files of a run as its further arguments.
@@ -253,7 +277,8 @@ fn add_heads<'d>(
     taking(taking(command, frames), endpoints)
 }
 
-/// The command with the options that choose datagrams by their addresses, their client and their times.
+/// The command with the options that choose by addresses, client and times, and with that which learns
+/// endpoints.
 fn add_choice<'d>(
     alloc: Global,
     command: Result<clap::Command<'d>, AllocError>,
@@ -267,30 +292,30 @@ fn add_choice<'d>(
         alloc,
         "address",
         "A",
-        "Prints only datagrams from or to one of these addresses",
+        "Prints only what came from or went to one of these addresses",
     );
-    let client = valued_option(
-        alloc,
-        "client",
-        "C",
-        "Prints only datagrams with a message of this client",
-    );
+    let client = valued_option(alloc, "client", "C", "Prints only what is of this client");
     let from = valued_option(
         alloc,
         "from",
         "TIME",
-        "Prints only datagrams from this time on, in seconds since 1970",
+        "Prints only what is from this time on, in seconds since 1970",
     );
     let until = valued_option(
         alloc,
         "until",
         "TIME",
-        "Prints only datagrams before this time",
+        "Prints only what is before this time",
     );
     let first = taking(command, address);
     let second = taking(first, client);
     let third = taking(second, from);
-    taking(third, until)
+    let learned = flag(
+        alloc,
+        "learned",
+        "Looks only at port 30490, at PORTS, and at endpoints that were offered or subscribed before",
+    );
+    taking(taking(third, until), learned)
 }
 
 /// The command with the options that choose packets.

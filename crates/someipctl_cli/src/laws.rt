@@ -67,10 +67,10 @@ pub fn calls_by_example()
         ≡ Some (chart_request (codes "x") (codes "y")) }
 
     ensures audit { requested (line (codes "audit" ∷ codes "x" ∷ []))
-        ≡ Some (audit_request (codes "x" ∷ []) (audit_options_of no_packets None None None)) }
+        ≡ Some (audit_request (codes "x" ∷ []) (audit_options_of no_packets no_choice None None None None None)) }
     ensures audit_options { requested (line (codes "audit" ∷ codes "--ports" ∷ codes "1,2" ∷ codes "--answer-ms" ∷ codes "5"
         ∷ codes "--settle-ms" ∷ codes "0" ∷ codes "x" ∷ [])) ≡ Some (audit_request (codes "x" ∷ [])
-        (audit_options_of no_packets (Some (codes "1,2")) (Some (codes "5")) (Some (codes "0")))) }
+        (audit_options_of no_packets no_choice (Some (codes "1,2")) None None (Some (codes "5")) (Some (codes "0")))) }
 
     // An option without its value, and one that was given twice.
     ensures bare_expect { HaveFault (line (codes "run" ∷ codes "x" ∷ codes "y" ∷ codes "--expect" ∷ []))

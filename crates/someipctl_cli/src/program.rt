@@ -61,13 +61,15 @@ impl PacketLists {
     }
 }
 
-/// The addresses, the client and the times whose datagrams are asked for, if they are named.
+/// The addresses, the client and the times that are asked for, if they are named, and whether endpoints are
+/// learned.
 #[derive(Drop)]
 struct Choice {
     addresses: Option<Vec<u32>>,
     client: Option<u16>,
     from: Option<Time>,
     until: Option<Time>,
+    learned: bool,
 }
 
 /// The program: does what its arguments ask for, tells on standard error what kept it from that, and gives the
@@ -186,9 +188,10 @@ fn show_recorded<'p, R: Files + Print + Eprint + Input + AllocGlobal>(
     let ports = ports_of(rt, options.ports, RECORDING_USAGE)?;
     let services = services_of(rt, options.service, RECORDING_USAGE)?;
     let lists = packet_lists(rt, options.packets, RECORDING_USAGE)?;
-    let choice = choice_of(rt, options.choice)?;
+    let choice = choice_of(rt, options.choice, RECORDING_USAGE)?;
     let wanted = Wanted {
         packets: lists.chosen(),
+        learned: choice.learned,
         ports: ports.as_deref(),
         addresses: choice.addresses.as_deref(),
         services: services.as_deref(),
@@ -238,9 +241,12 @@ fn end_recording<'p, R: Eprint>(
         Ok(shown) => shown,
         Err(stopped) => return Err(stopped_at(paths, stopped)),
     };
+    // Where standard error can't be written, what was printed stands all the same.
     if !shown.left_out.is_empty() {
-        // Where standard error can't be written, what was printed stands all the same.
         let _ = eprintln!(rt; "recording: {}", shown.left_out);
+    }
+    if shown.is_full {
+        let _ = eprintln!(rt; "recording: full endpoints");
     }
     match shown.fault {
         Some(found) => Err(fault_at(paths, found)),
@@ -274,15 +280,37 @@ fn audit_recorded<'p, R: Files + Print + Eprint + Input + AllocGlobal>(
     options: AuditOptions<'p>,
 ) -> Result<Outcome, Failure<'p>> {
     let ports = ports_of(rt, options.ports, AUDIT_USAGE)?;
+    let services = services_of(rt, options.service, AUDIT_USAGE)?;
     let lists = packet_lists(rt, options.packets, AUDIT_USAGE)?;
+    let choice = choice_of(rt, options.choice, AUDIT_USAGE)?;
+    let wanted = Wanted {
+        packets: lists.chosen(),
+        learned: choice.learned,
+        ports: ports.as_deref(),
+        addresses: choice.addresses.as_deref(),
+        services: services.as_deref(),
+        client: choice.client,
+        from: choice.from,
+        until: choice.until,
+    };
+    audit_wanted(rt, paths, options, wanted)
+}
+
+/// The same, where what is asked for is right.
+fn audit_wanted<'p, R: Files + Print + Eprint + Input + AllocGlobal>(
+    rt: &R,
+    paths: &[&'p str],
+    options: AuditOptions<'p>,
+    wanted: Wanted<'_>,
+) -> Result<Outcome, Failure<'p>> {
     let rules = match rules_in(options.answer_ms, options.settle_ms) {
         Ok(rules) => rules,
         Err(error) => return Err(Failure::BadTimes(error)),
     };
     let asked = AuditAsked {
         rules,
-        ports: ports.as_deref(),
-        packets: lists.chosen(),
+        wanted,
+        frames: options.frames,
     };
     let mut sources = open_sources(rt, paths)?;
     let mut writer = io::writer(rt);
@@ -352,56 +380,63 @@ fn window_of<'p>(text: Option<&'p str>, usage: &'static str) -> Result<Option<u6
     }
 }
 
-/// The addresses, the client and the times whose datagrams are asked for.
+/// The addresses, the client and the times that are asked for, of a command that is used so.
 fn choice_of<'p, R: AllocGlobal>(
     rt: &R,
     options: ChoiceOptions<'p>,
+    usage: &'static str,
 ) -> Result<Choice, Failure<'p>> {
-    let addresses = addresses_of(rt, options.address)?;
-    let client = client_of(options.client)?;
-    let from = time_of(OptionName::From, options.from)?;
-    let until = time_of(OptionName::Until, options.until)?;
+    let addresses = addresses_of(rt, options.address, usage)?;
+    let client = client_of(options.client, usage)?;
+    let from = time_of(OptionName::From, options.from, usage)?;
+    let until = time_of(OptionName::Until, options.until, usage)?;
     Ok(Choice {
         addresses,
         client,
         from,
         until,
+        learned: options.learned,
     })
 }
 
-/// The addresses whose datagrams are asked for, if they are named.
+/// The addresses that are asked for, if they are named, of a command that is used so.
 fn addresses_of<'p, R: AllocGlobal>(
     rt: &R,
     text: Option<&'p str>,
+    usage: &'static str,
 ) -> Result<Option<Vec<u32>>, Failure<'p>> {
     let Some(text) = text else {
         return Ok(None);
     };
     match addresses_in(rt.alloc(), text) {
         Ok(addresses) => Ok(Some(addresses)),
-        Err(error) => Err(Failure::of_list(error, OptionName::Address, text, RECORDING_USAGE)),
+        Err(error) => Err(Failure::of_list(error, OptionName::Address, text, usage)),
     }
 }
 
-/// The client whose datagrams are asked for, if it is named.
-fn client_of(text: Option<&str>) -> Result<Option<u16>, Failure<'_>> {
+/// The client that is asked for, if it is named, of a command that is used so.
+fn client_of<'p>(text: Option<&'p str>, usage: &'static str) -> Result<Option<u16>, Failure<'p>> {
     let Some(text) = text else {
         return Ok(None);
     };
     match client_in(text) {
         Some(client) => Ok(Some(client)),
-        None => Err(Failure::BadOption(OptionName::Client, text, RECORDING_USAGE)),
+        None => Err(Failure::BadOption(OptionName::Client, text, usage)),
     }
 }
 
-/// The time that an option of `recording` names, if it is given.
-fn time_of(option: OptionName, text: Option<&str>) -> Result<Option<Time>, Failure<'_>> {
+/// The time that an option names, if it is given, of a command that is used so.
+fn time_of<'p>(
+    option: OptionName,
+    text: Option<&'p str>,
+    usage: &'static str,
+) -> Result<Option<Time>, Failure<'p>> {
     let Some(text) = text else {
         return Ok(None);
     };
     match time_in(text) {
         Some(time) => Ok(Some(time)),
-        None => Err(Failure::BadOption(option, text, RECORDING_USAGE)),
+        None => Err(Failure::BadOption(option, text, usage)),
     }
 }
 

@@ -6,6 +6,7 @@ pub mod Moments
 pub mod Gathered
 pub mod Files
 pub mod Wanted
+pub mod Sought
 pub mod Asked
 pub mod RecordedText
 pub mod Scenes

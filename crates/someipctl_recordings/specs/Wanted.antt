@@ -1,13 +1,11 @@
 -- Which datagrams of recordings are asked for.
-use Rattle.std.specs.Prelude.{ℕ, ◌+◌, ◌*◌, Bool, true, false, nat_le, nat_lt, ◌==◌, ◌&&◌, ◌||◌, List, Option, Some, None, Result, Ok, Err, option_map, filter}
+use Rattle.std.specs.Prelude.{ℕ, ◌+◌, ◌*◌, Bool, true, false, nat_le, nat_lt, ◌==◌, ◌&&◌, ◌||◌, List, [], Option, Some, None, Result, Ok, Err, option_map}
 use Rattle.std.specs.List.{list_any}
 use Rattle.std.specs.Int.{w32, from_be_bytes}
 use Rattle.recording.specs.declared.Endpoint.{Endpoint}
 use Rattle.recording.specs.declared.Time.{Time}
 use Rattle.recording.specs.Packets.{DatagramValue}
-use Rattle.recording.specs.Records.{Item}
 use Rattle.recording_packets.specs.Chosen.{ChosenValue, all_packets}
-use Rattle.recording_packets.specs.Intake.{ArrivalValue, IntakeValue, arrivals}
 use Rattle.recording_packets.specs.View.{view_chosen}
 use Rattle.someip_wire.specs.declared.Header.{Header}
 use Rattle.someip_wire.specs.declared.WireError.{WireError}
@@ -17,10 +15,11 @@ use Rattle.someipctl_show.specs.Services.{asks_header}
 use Rattle.someipctl_show.specs.declared.services.AskedService.{AskedService}
 use Rattle.someipctl_recordings.specs.declared.wanted.Wanted.{Wanted}
 
--- which packets are looked at; the ports, the addresses, the services, the client and the times whose datagrams are asked
+-- which packets are looked at; whether datagrams at learned endpoints are asked for beside those at the ports; the ports, the addresses, the services, the client and the times whose datagrams are asked
 -- for, where they are named
 pub record WantedValue : Type 0 where
   pub packets : ChosenValue
+  pub learned : Bool
   pub ports : Option (List ℕ)
   pub addresses : Option (List ℕ)
   pub services : Option (List AskedService)
@@ -32,6 +31,7 @@ pub record WantedValue : Type 0 where
 abbrev pub all_wanted : WantedValue
 all_wanted = record {
   packets = all_packets;
+  learned = false;
   ports = None;
   addresses = None;
   services = None;
@@ -50,6 +50,11 @@ is_at_port (Some ports) d = list_any (λ port. port == d.from.port) ports || lis
 -- an address as a number, the highest byte first
 abbrev pub address_of : Endpoint → ℕ
 address_of e = from_be_bytes w32 e.ip
+
+-- the ports that are named, if any are
+abbrev pub ports_of : Option (List ℕ) → List ℕ
+ports_of None = []
+ports_of (Some ports) = ports
 
 -- the same of addresses
 abbrev pub is_at_address : Option (List ℕ) → DatagramValue → Bool
@@ -104,19 +109,17 @@ asks_messages None (Some client) datagram = list_any (asks_message None (Some cl
 
 -- ---- together
 
+-- where endpoints are learned, ports are looked at beside them, and leave out no others
 abbrev pub is_wanted : WantedValue → DatagramValue → Bool
 is_wanted w d =
-    is_at_port w.ports d && is_at_address w.addresses d && is_in_span w.from w.until d.time && asks_messages w.services w.client d.payload
-
--- the datagrams of items that are asked for, in order, where these packets came before
-abbrev pub wanted_from : WantedValue → IntakeValue → List Item → List ArrivalValue
-wanted_from w s items = filter (λ a. is_wanted w a.datagram) (arrivals w.packets s items)
+    (w.learned || is_at_port w.ports d) && is_at_address w.addresses d && is_in_span w.from w.until d.time && asks_messages w.services w.client d.payload
 
 -- ---- the program's values
 
 abbrev pub view_wanted : Wanted → WantedValue
 view_wanted w = record {
   packets = view_chosen w.packets;
+  learned = w.learned;
   ports = option_map (λ p. p.now) w.ports;
   addresses = option_map (λ a. a.now) w.addresses;
   services = option_map (λ s. s.now) w.services;

@@ -1,5 +1,7 @@
 pub mod Kinds
 pub mod Said
+pub mod Subjects
+pub mod AskedAudits
 pub mod AuditText
 pub mod Tallies
 pub mod SeenIn

@@ -7,6 +7,7 @@ mod kind;
 pub mod laws;
 mod lines;
 mod says;
+mod subject;
 mod summary;
 mod tally;
 mod times;

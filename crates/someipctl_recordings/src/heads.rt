@@ -59,7 +59,7 @@ fn put_line_head<W: Write>(
 }
 
 /// Prints the number of a packet, where it is asked for.
-fn put_frame<W: Write>(
+pub(crate) fn put_frame<W: Write>(
     buffer: &mut Buffer,
     writer: &mut W,
     is_asked: bool,

@@ -2,7 +2,6 @@
 //! read.
 ghost use Rattle.std.specs.Prelude.{◌≡◌, ◌≤◌, ◌<◌, ◌+◌, ◌^◌, [], ◌∷◌, Ok, OnOk, OnErr, IfErr, IfOk, length, map, option_map};
 ghost use Rattle.recording.specs.View.{view_datagram, view_record};
-ghost use Rattle.recording_packets.specs.Intake.{after_packet, nothing_taken};
 ghost use Rattle.recording_packets.specs.LeftOut.{total};
 ghost use Rattle.recording_packets.specs.View.{view_arrival};
 ghost use Rattle.someipctl_recordings.specs.Gathered.{IsInTime, view_store};
@@ -12,6 +11,7 @@ ghost use Rattle.someipctl_recordings.specs.RecordedText.{AreRecorded, IsRecorde
 ghost use Rattle.someipctl_show.specs.TextKinds.{SendsOne, StopsOne};
 ghost use Rattle.someipctl_io.specs.declared.Fault.TheVariants.{CannotRead};
 ghost use Rattle.someipctl_recordings.specs.RecordingResult.{BeginsRecording, PutsRecording, ShowsRecording};
+ghost use Rattle.someipctl_recordings.specs.Sought.{after_items, is_full, learner_of};
 ghost use Rattle.someipctl_recordings.specs.RecordingResult.{nothing_shown, progress_of};
 ghost use Rattle.someipctl_recordings.specs.RecordingResult.{shown_recording, view_asked, view_limits};
 
@@ -19,8 +19,10 @@ use crate::asked::{Asked, Heads, WholeLimits};
 use crate::datagrams::{Numbered, Telling, put_recorded};
 use crate::moments::moment_of;
 use crate::read_loop::{Coming, next_coming};
+use crate::sought::{is_full, learner_of, seeks};
 use recording::{Record, RecordingError, RecordingReader};
 use recording_packets::{Arrival, Intake, LeftOut};
+use someip_audit::Learner;
 use someip_reassembly::Reassembly;
 use someipctl_io::{Buffer, Fault, Outcome, PrintFault};
 use someipctl_show::value_lines::ValueLines;
@@ -53,6 +55,9 @@ pub struct ShownRecording {
     pub outcome: Outcome,
     /// The packets that give no datagram, of those that are looked at.
     pub left_out: LeftOut,
+    /// Whether an endpoint was named where no more may be learned: from then on every datagram is looked at. Of
+    /// an audit, which tells this as a finding, it is false.
+    pub is_full: bool,
     /// The fault that ends the recordings, if one does. What comes before it was shown.
     pub fault: Option<FileFault>,
 }
@@ -75,6 +80,8 @@ struct Recorder<'t, S> {
     shown: Shown,
     /// Holds the lines of a datagram that get something before them. Between datagrams it is empty.
     lines: Buffer,
+    /// Learns endpoints, where that is asked for.
+    learner: Option<Learner>,
     telling: Telling<'t, S>,
 }
 
@@ -128,6 +135,7 @@ fn show_files<S: Reassembly + Drop, R: Read, W: Write>(
     let mut recorder = Recorder {
         shown: Shown::nothing(),
         lines: Buffer::new(alloc)?,
+        learner: learner_of(alloc, &asked.wanted)?,
         telling: Telling {
             alloc,
             values: ValueLines::new(alloc, asked.types),
@@ -171,6 +179,7 @@ fn put_files<S: Reassembly + Drop, R: Read, W: Write>(
     requires empty { buffer.old ≡ [] }
     requires shown { recorder.old.shown ≡ nothing_shown }
     requires lines { recorder.old.lines ≡ [] }
+    requires learner { recorder.old.learner ≡ learner_of (view_asked asked.now).wanted }
     requires types { recorder.old.telling.values.types.now ≡ asked.now.types.now }
     requires store { view_store S.limits S.parts recorder.old.telling.store
         ≡ option_map empty_store (option_map view_limits asked.now.whole) }
@@ -190,7 +199,7 @@ fn put_files<S: Reassembly + Drop, R: Read, W: Write>(
             Coming::Record => {}
             Coming::Fault(fault) => {
                 let fault = FileFault { file: *file, fault };
-                return Ok(recorder.shown.ended(intake.left_out(), Some(fault)));
+                return Ok(recorder.ended(intake.left_out(), Some(fault)));
             }
             Coming::End => {
                 recording = RecordingReader::new(alloc);
@@ -202,7 +211,7 @@ fn put_files<S: Reassembly + Drop, R: Read, W: Write>(
             put_record(buffer, writer, &found, asked, &mut intake, recorder)?;
         }
     }
-    Ok(recorder.shown.ended(intake.left_out(), None))
+    Ok(recorder.ended(intake.left_out(), None))
 }
 
 impl Shown {
@@ -216,14 +225,17 @@ impl Shown {
             is_faulty: false,
         }
     }
+}
 
+impl<S: Reassembly + Drop> Recorder<'_, S> {
     /// What is told at the end of the recordings, or at their fault.
-    fn ended(self, left_out: LeftOut, fault: Option<FileFault>) -> ShownRecording
-        ensures { result ≡ shown_recording self left_out fault }
+    fn ended(&self, left_out: LeftOut, fault: Option<FileFault>) -> ShownRecording
+        ensures { result ≡ shown_recording self.now.shown left_out (is_full self.now.learner) fault }
     {
         ShownRecording {
-            outcome: Outcome::of(self.is_faulty),
+            outcome: Outcome::of(self.shown.is_faulty),
             left_out,
+            is_full: is_full(&self.learner),
             fault,
         }
     }
@@ -245,19 +257,23 @@ fn put_record<S: Reassembly + Drop, W: Write>(
     ensures empty { OnOk result (recorder.new.lines ≡ []) }
     ensures ok { OnOk result (SendsOne (AreRecorded (view_asked asked.now)
         (progress_of recorder.old.shown (view_store S.limits S.parts recorder.old.telling.store))
-        (asked_from (view_asked asked.now) intake.old (Ok (view_record found.now) ∷ [])))
+        (asked_from (view_asked asked.now) (record { intake = intake.old; learner = recorder.old.learner })
+        (Ok (view_record found.now) ∷ [])))
         (W.contents writer.old) buffer.old (W.contents writer.new) buffer.new) }
     ensures progress { OnOk result (progress_of recorder.new.shown (view_store S.limits S.parts recorder.new.telling.store)
         ≡ after_all (view_asked asked.now)
         (progress_of recorder.old.shown (view_store S.limits S.parts recorder.old.telling.store))
-        (asked_from (view_asked asked.now) intake.old (Ok (view_record found.now) ∷ []))) }
-    ensures took { OnOk result (intake.new
-        ≡ after_packet (view_asked asked.now).wanted.packets intake.old (view_record found.now)) }
+        (asked_from (view_asked asked.now) (record { intake = intake.old; learner = recorder.old.learner })
+        (Ok (view_record found.now) ∷ []))) }
+    ensures took { OnOk result (record { intake = intake.new; learner = recorder.new.learner }
+        ≡ after_items (view_asked asked.now).wanted (record { intake = intake.old; learner = recorder.old.learner })
+        (Ok (view_record found.now) ∷ [])) }
     ensures few { OnOk result (recorder.new.shown.datagrams ≤ intake.new.frames) }
     ensures in_time { OnOk result (IsInTime S.parts recorder.new.shown.now recorder.new.telling.store) }
     ensures err { OnErr result (StopsOne (AreRecorded (view_asked asked.now)
         (progress_of recorder.old.shown (view_store S.limits S.parts recorder.old.telling.store))
-        (asked_from (view_asked asked.now) intake.old (Ok (view_record found.now) ∷ [])))
+        (asked_from (view_asked asked.now) (record { intake = intake.old; learner = recorder.old.learner })
+        (Ok (view_record found.now) ∷ [])))
         (W.contents writer.old) buffer.old (W.contents writer.new)) }
     ensures types { recorder.new.telling.values.types.now ≡ recorder.old.telling.values.types.now }
 {
@@ -265,7 +281,8 @@ fn put_record<S: Reassembly + Drop, W: Write>(
     let Some(arrival) = intake.arrival(taken) else {
         return Ok(());
     };
-    if !asked.wanted.wants(&arrival.datagram) {
+    let alloc = recorder.telling.alloc;
+    if !seeks(alloc, &asked.wanted, &mut recorder.learner, &arrival)? {
         return Ok(());
     }
     put_next(buffer, writer, arrival, asked.heads, recorder)
@@ -291,6 +308,7 @@ fn put_next<S: Reassembly + Drop, W: Write>(
         → OnOk result (progress_of recorder.new.shown (view_store S.limits S.parts recorder.new.telling.store)
         ≡ after_datagram asked (progress_of recorder.old.shown (view_store S.limits S.parts recorder.old.telling.store))
         (view_datagram arrival.entry.datagram)) }
+    ensures learner { recorder.new.learner ≡ recorder.old.learner }
     ensures one { OnOk result (recorder.new.shown.datagrams ≡ recorder.old.shown.datagrams + 1) }
     ensures in_time { OnOk result (IsInTime S.parts recorder.new.shown.now recorder.new.telling.store) }
     ensures err { (asked : AskedValue) → asked.types ≡ recorder.old.telling.values.types.now → asked.heads ≡ heads

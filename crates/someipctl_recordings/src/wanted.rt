@@ -18,6 +18,9 @@ use someipctl_show::services::{AskedService, names_header};
 pub struct Wanted<'a> {
     /// Which packets are looked at.
     pub packets: ChosenPackets<'a>,
+    /// Whether only datagrams from or to port 30490, one of the ports, or an endpoint that an Offer or a
+    /// Subscribe named before are asked for.
+    pub learned: bool,
     /// Only datagrams from or to one of these ports. None asks for all.
     pub ports: Option<&'a [u16]>,
     /// Only datagrams from or to one of these addresses, each as a number whose highest byte stands first.
@@ -40,6 +43,7 @@ impl<'a> Wanted<'a> {
     {
         Wanted {
             packets: ChosenPackets::all(),
+            learned: false,
             ports: None,
             addresses: None,
             services: None,
@@ -53,7 +57,7 @@ impl<'a> Wanted<'a> {
     pub fn wants(&self, datagram: &Datagram<'_>) -> bool
         ensures { result ≡ is_wanted (view_wanted self.now) (view_datagram datagram.now) }
     {
-        is_at_port(self.ports, datagram)
+        (self.learned || is_at_port(self.ports, datagram))
             && is_at_address(self.addresses, datagram)
             && is_in_span(self.from, self.until, datagram.time)
             && asks_messages(self.services, self.client, datagram.payload)
@@ -89,7 +93,7 @@ fn address_of(endpoint: Endpoint) -> u32
 }
 
 /// Whether a time is not before one and before another, where they are named.
-fn is_in_span(from: Option<Time>, until: Option<Time>, time: Option<Time>) -> bool
+pub(crate) fn is_in_span(from: Option<Time>, until: Option<Time>, time: Option<Time>) -> bool
     ensures { result ≡ is_in_span from until time }
 {
     if from.is_none() && until.is_none() {

@@ -18,7 +18,7 @@ endpoint n port = record { ip = node n; port = port }
 
 -- datagram k of a node to the group
 abbrev pub from_node : ℕ → ℕ → Origin
-from_node k n = record { datagram = k; from = endpoint n 30490; to = record { ip = record { octets = 224 ∷ 244 ∷ 224 ∷ 245 ∷ [] }; port = 30490 } }
+from_node k n = record { numbers = record { datagram = k; frame = k }; from = endpoint n 30490; to = record { ip = record { octets = 224 ∷ 244 ∷ 224 ∷ 245 ∷ [] }; port = 30490 } }
 
 -- instance 1 of a service, major version 1
 abbrev pub service : ℕ → OfferKey

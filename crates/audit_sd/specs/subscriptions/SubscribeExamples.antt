@@ -14,7 +14,7 @@ node n = record { octets = 192 ∷ 168 ∷ 0 ∷ n ∷ [] }
 
 -- datagram k from one node to another
 abbrev pub datagram : ℕ → ℕ → ℕ → Origin
-datagram k from to = record { datagram = k; from = record { ip = node from; port = 30490 }; to = record { ip = node to; port = 30490 } }
+datagram k from to = record { numbers = record { datagram = k; frame = k }; from = record { ip = node from; port = 30490 }; to = record { ip = node to; port = 30490 } }
 
 -- node n subscribes eventgroup 5 of instance 1 of service 4096 at node 9, with this counter
 abbrev pub subscription : ℕ → ℕ → SubscriptionKey

@@ -43,7 +43,7 @@ until_is waiting first told is there = same (ap (option_and_then waits_of) there
     same e = cc
 
 pub told_is_first : (waiting : WaitTable) (first : Due MessageKey) (told : Waiting) → IsFirstDue waits_of waiting (Some first) → Some told ≡ get waiting first.key → (other : Missing)
-    → IsWaiting waiting other → is_le (missing_cmp (record { key = first.key.0; k = told.k; until = told.until }) other) ≡ true
+    → IsWaiting waiting other → is_le (missing_cmp (record { key = first.key.0; numbers = told.numbers; until = told.until }) other) ≡ true
 told_is_first waiting first told is there other waits_too =
     ap (λ (n : ℕ). is_le (due_cmp message_cmp (record { at = n; key = first.key }) (record { at = other.until; key = message_key other.key }))) (until_is waiting first told is there)
     ∙ is.1 (record { at = other.until; key = message_key other.key }) (waits waiting other waits_too)
@@ -95,7 +95,7 @@ pub all_told : (limits : Limits) (latest now : ℕ) (parts : Parts) (waiting : W
 all_told limits latest now parts waiting (Some missing) agrees none = tt
 all_told limits latest now parts waiting None agrees none = λ key part there.
     let known = known_until latest (part.last + limits.timeout) (get waiting (message_key key)) (sym (agrees key) ∙ ap (part_until limits.timeout) there) in
-    let later = none (record { key = key; k = known.0.k; until = known.0.until }) known.1 in
+    let later = none (record { key = key; numbers = known.0.numbers; until = known.0.until }) known.1 in
     let until : known.0.until ≡ part.last + limits.timeout = known.2 in
     omega (arith, later, until)
 
@@ -104,4 +104,4 @@ pub due_agrees : (limits : Limits) (latest now : ℕ) (parts : Parts) (waiting :
     → IfSome r (λ missing. IsWaiting waiting missing) → IfSome r (λ missing. missing.until ≤ now) → Agrees limits now parts (waiting_after_due r waiting)
 due_agrees limits latest now parts waiting None le agrees there over = agrees_later limits latest now parts waiting le agrees
 due_agrees limits latest now parts waiting (Some missing) le agrees there over =
-    forget_agrees limits now parts waiting (agrees_later limits latest now parts waiting le agrees) missing.key (record { k = missing.k; until = missing.until }) there over
+    forget_agrees limits now parts waiting (agrees_later limits latest now parts waiting le agrees) missing.key (record { numbers = missing.numbers; until = missing.until }) there over

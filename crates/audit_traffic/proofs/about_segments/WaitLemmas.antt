@@ -6,6 +6,7 @@ use Rattle.std.specs.FinMap.{get, insert, remove, empty, get-empty, get-insert, 
 use Rattle.std.proofs.lemmas.Bool.Decides.{nat_tests}
 use Rattle.someip_reassembly.specs.declared.error.TpError.{TpError}
 use Rattle.someip_reassembly.specs.declared.error.TpError.TheVariants.{Unaligned, TooLong, Conflict, NoSlot, OutOfMemory, NoHeader}
+use Rattle.someip_tables.specs.declared.hashed.origin.Numbers.{Numbers}
 use Rattle.someip_tables.specs.Retained.{kept_if}
 use Rattle.someip_tables.proofs.Entries.{get-retain, same_by_test}
 use Rattle.someip_reassembly.specs.declared.key.ReassemblyKey.{ReassemblyKey}
@@ -130,7 +131,7 @@ module _ (limits : Limits) (now : ℕ) (parts : Parts) (waiting : WaitTable) (ag
   unfolding parts_after
   after_is o = refl
 
-  after_by : (o : SegmentOffer) (k : ℕ) (j : Result Offered TpError) → j ≡ judged limits now o left → judgement limits now o parts ≡ j
+  after_by : (o : SegmentOffer) (k : Numbers) (j : Result Offered TpError) → j ≡ judged limits now o left → judgement limits now o parts ≡ j
       → Agrees limits now (parts_by j o.key (kept j now o left)) (waiting_by j limits.timeout now k o.key waiting)
   after_by o k (Ok offered.Part) is was = put_agrees o.key (with_offer (part_under left o.key) now o) _ refl
   after_by o k (Ok offered.Whole) is was =
@@ -146,13 +147,13 @@ module _ (limits : Limits) (now : ℕ) (parts : Parts) (waiting : WaitTable) (ag
   after_by o k (Err OutOfMemory) is was = left_agrees
   after_by o k (Err NoHeader) is was = left_agrees
 
-  pub after_agrees : (o : SegmentOffer) (k : ℕ)
+  pub after_agrees : (o : SegmentOffer) (k : Numbers)
       → Agrees limits now (parts_by (judgement limits now o parts) o.key (parts_after limits now o parts)) (waiting_by (judgement limits now o parts) limits.timeout now k o.key waiting)
   unfolding judgement parts_after
   after_agrees o k = after_by o k (judged limits now o left) refl refl
 
 -- the same of a store and a table that are these
-pub after_agrees_as : (limits limits_then : Limits) (latest now timeout : ℕ) (parts parts_then : Parts) (waiting waiting_then : WaitTable) (o : SegmentOffer) (k : ℕ) → limits.timeout ≡ timeout
+pub after_agrees_as : (limits limits_then : Limits) (latest now timeout : ℕ) (parts parts_then : Parts) (waiting waiting_then : WaitTable) (o : SegmentOffer) (k : Numbers) → limits.timeout ≡ timeout
     → limits_then ≡ limits → latest ≤ now → Agrees limits latest parts waiting
     → parts_then ≡ parts_by (judgement limits now o parts) o.key (parts_after limits now o parts)
     → waiting_then ≡ waiting_by (judgement limits now o parts) timeout now k o.key waiting → Agrees limits_then now parts_then waiting_then

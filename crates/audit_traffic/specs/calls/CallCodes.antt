@@ -5,6 +5,8 @@ use Rattle.std.specs.Coded.{Coded, code_by, coded×, coded⊎, coded_ℕ, coded_
 use Rattle.std.specs.FinMap as finite
 use Rattle.std.specs.declared.net.socket_addr.SocketAddrV4.{SocketAddrV4}
 use Rattle.someip_tables.specs.Endpoints.{coded_endpoint}
+use Rattle.someip_tables.specs.declared.hashed.origin.Numbers.{Numbers}
+use Rattle.someip_tables.specs.hashed.Origins.{coded_numbers}
 use Rattle.audit_traffic.specs.declared.calls.call.AuditedCall.{AuditedCall}
 use Rattle.audit_traffic.specs.declared.calls.excerpt.Excerpt.{Excerpt}
 use Rattle.audit_traffic.specs.declared.calls.finding.CallRules.{CallRules}
@@ -26,8 +28,8 @@ coded_excerpt = code_by (ℕ × List ℕ) (coded× coded_ℕ (coded_list coded_�
 
 abbrev pub coded_open : Coded OpenCall
 coded_open =
-    code_by ((ℕ × ℕ) × (ℕ × Excerpt)) (coded× (coded× coded_ℕ coded_ℕ) (coded× coded_ℕ coded_excerpt)) (λ c. ((c.k, c.since), (c.until, c.excerpt)))
-    (λ p. record { k = p.0.0; since = p.0.1; until = p.1.0; excerpt = p.1.1 }) (λ _. refl)
+    code_by ((Numbers × ℕ) × (ℕ × Excerpt)) (coded× (coded× coded_numbers coded_ℕ) (coded× coded_ℕ coded_excerpt)) (λ c. ((c.numbers, c.since), (c.until, c.excerpt)))
+    (λ p. record { numbers = p.0.0; since = p.0.1; until = p.1.0; excerpt = p.1.1 }) (λ _. refl)
 
 abbrev KnownCode : Type 0
 KnownCode = OpenCall ⊎ (ℕ ⊎ ℕ)

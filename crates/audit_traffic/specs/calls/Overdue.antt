@@ -15,7 +15,7 @@ use Rattle.audit_traffic.specs.calls.KnownCalls.{is_known_at}
 
 -- an open call, as it is told
 abbrev pub unanswered : AuditedCall → OpenCall → Unanswered
-unanswered call open_call = record { call = call; k = open_call.k; since = open_call.since; until = open_call.until }
+unanswered call open_call = record { call = call; numbers = open_call.numbers; since = open_call.since; until = open_call.until }
 
 -- a call is open, and would be told so
 abbrev pub IsOpenCall : Calls → Unanswered → Type 0

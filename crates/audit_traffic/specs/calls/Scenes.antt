@@ -1,9 +1,10 @@
 -- Messages that the laws speak of as examples: a client at 192.168.0.2:40000 calls a service at 192.168.0.3:30509.
-use Rattle.std.specs.Prelude.{ℕ, List, [], ◌∷◌}
+use Rattle.std.specs.Prelude.{ℕ, ◌+◌, List, [], ◌∷◌}
 use Rattle.std.specs.declared.net.socket_addr.SocketAddrV4.{SocketAddrV4}
 use Rattle.someip_wire.specs.declared.header.Header.{Header}
 use Rattle.someip_wire.specs.declared.header.MessageType.{MessageType}
 use Rattle.someip_wire.specs.declared.header.MessageType.TheVariants as kinds
+use Rattle.someip_tables.specs.declared.hashed.origin.Numbers.{Numbers}
 use Rattle.audit_traffic.specs.declared.calls.call.AuditedCall.{AuditedCall}
 use Rattle.audit_traffic.specs.declared.calls.finding.CallRules.{CallRules}
 use Rattle.audit_traffic.specs.calls.Tapped.{Tapped, call_asked}
@@ -26,9 +27,13 @@ other_server = record { ip = record { octets = 192 ∷ 168 ∷ 0 ∷ 3 ∷ [] };
 abbrev pub header_with : ℕ → MessageType → Header
 header_with session kind = record { service = 0x1234; method = 0x0421; client = 1; session = session; interface = 1; kind = kind; code = record { 0 = 0 } }
 
+-- a datagram of this number, before which two packets gave none
+abbrev pub numbered : ℕ → Numbers
+numbered k = record { datagram = k; frame = k + 2 }
+
 -- a message of this type from one endpoint to another at a moment, in the datagram of its number
 abbrev pub message_at : ℕ → SocketAddrV4 → SocketAddrV4 → ℕ → MessageType → List ℕ → Tapped
-message_at now from to session kind payload = record { now = now; k = 7; from = from; to = to; header = header_with session kind; payload = payload }
+message_at now from to session kind payload = record { now = now; numbers = numbered 7; from = from; to = to; header = header_with session kind; payload = payload }
 
 -- a REQUEST with session 5, and one without sessions
 abbrev pub request_at : ℕ → List ℕ → Tapped

@@ -5,6 +5,7 @@ use Rattle.someip_wire.specs.declared.header.Header.{Header}
 use Rattle.someip_wire.specs.declared.header.MessageType.{MessageType}
 use Rattle.someip_wire.specs.declared.header.MessageType.TheVariants.{Request, Response, Error}
 use Rattle.someip_wire.specs.declared.message.Message.{Message}
+use Rattle.someip_tables.specs.declared.hashed.origin.Numbers.{Numbers}
 use Rattle.audit_traffic.specs.declared.calls.call.AuditedCall.{AuditedCall}
 use Rattle.audit_traffic.specs.declared.calls.finding.CallRules.{CallRules}
 use Rattle.audit_traffic.specs.declared.calls.known.OpenCall.{OpenCall}
@@ -14,14 +15,14 @@ use Rattle.audit_traffic.specs.calls.Excerpts.{excerpt_of}
 -- a whole message, as it was seen: when, in which datagram, and between which endpoints
 pub record Tapped : Type 0 where
   pub now : ℕ
-  pub k : ℕ
+  pub numbers : Numbers
   pub from : SocketAddrV4
   pub to : SocketAddrV4
   pub header : Header
   pub payload : List ℕ
 
-abbrev pub tapped : ℕ → ℕ → SocketAddrV4 → SocketAddrV4 → Message → Tapped
-tapped now k from to message = record { now = now; k = k; from = from; to = to; header = message.header; payload = message.payload.now }
+abbrev pub tapped : ℕ → Numbers → SocketAddrV4 → SocketAddrV4 → Message → Tapped
+tapped now numbers from to message = record { now = now; numbers = numbers; from = from; to = to; header = message.header; payload = message.payload.now }
 
 -- the call that a message opens, if it is a REQUEST
 abbrev pub call_asked : Tapped → AuditedCall
@@ -43,8 +44,8 @@ abbrev pub call_of : Tapped → Option AuditedCall
 call_of message = call_by message.header.kind message
 
 -- a call as its REQUEST opens it, at a moment and in a datagram: it waits for as long as an answer may take
-abbrev pub open_with : CallRules → ℕ → ℕ → List ℕ → OpenCall
-open_with rules now k payload = record { k = k; since = now; until = now + rules.answer_ms; excerpt = excerpt_of payload }
+abbrev pub open_with : CallRules → ℕ → Numbers → List ℕ → OpenCall
+open_with rules now numbers payload = record { numbers = numbers; since = now; until = now + rules.answer_ms; excerpt = excerpt_of payload }
 
 abbrev pub opened : CallRules → Tapped → OpenCall
-opened rules message = open_with rules message.now message.k message.payload
+opened rules message = open_with rules message.now message.numbers message.payload

@@ -7,6 +7,8 @@ use Rattle.std.specs.declared.net.socket_addr.SocketAddrV4.{SocketAddrV4}
 use Rattle.someip_wire.specs.declared.header.Header.{Header}
 use Rattle.someip_wire.specs.Kinds.{has_tp_flag, without_tp_flag}
 use Rattle.someip_wire.specs.Spelling.{MessageValue}
+use Rattle.someip_tables.specs.declared.hashed.origin.Numbers.{Numbers}
+use Rattle.someip_tables.specs.hashed.Origins.{coded_numbers}
 use Rattle.someip_reassembly.specs.declared.error.TpError.{TpError}
 use Rattle.someip_reassembly.specs.declared.error.TpError.TheVariants.{Conflict}
 use Rattle.someip_reassembly.specs.TpHeader.{segment_in}
@@ -77,29 +79,29 @@ parts_by (Ok Part) key parts = parts
 parts_by (Ok Whole) key parts = parts_less parts key
 parts_by (Err refusal) key parts = parts
 
--- the number of the datagram that a message began with: an earlier one, while it waits, and else this
-abbrev pub first_of : ℕ → ℕ → Option Waiting → ℕ
-first_of now k None = k
-first_of now k (Some waiting) = if nat_lt now waiting.until then waiting.k else k
+-- the numbers of the datagram that a message began with: an earlier one, while it waits, and else this
+abbrev pub first_of : ℕ → Numbers → Option Waiting → Numbers
+first_of now numbers None = numbers
+first_of now numbers (Some waiting) = if nat_lt now waiting.until then waiting.numbers else numbers
 
 -- the timeouts: an accepted segment begins that of its message anew, and a message that is whole, or that a conflict ends,
 -- waits no more
-abbrev pub waiting_by : Result Offered TpError → ℕ → ℕ → ℕ → ReassemblyKey → WaitTable → WaitTable
-waiting_by (Ok Part) timeout now k key waiting =
-    finite.insert waiting (message_key key) (record { k = first_of now k (finite.get waiting (message_key key)); until = now + timeout })
-waiting_by (Ok Whole) timeout now k key waiting = finite.remove waiting (message_key key)
-waiting_by (Err Conflict) timeout now k key waiting = finite.remove waiting (message_key key)
-waiting_by (Err refusal) timeout now k key waiting = waiting
+abbrev pub waiting_by : Result Offered TpError → ℕ → ℕ → Numbers → ReassemblyKey → WaitTable → WaitTable
+waiting_by (Ok Part) timeout now numbers key waiting =
+    finite.insert waiting (message_key key) (record { numbers = first_of now numbers (finite.get waiting (message_key key)); until = now + timeout })
+waiting_by (Ok Whole) timeout now numbers key waiting = finite.remove waiting (message_key key)
+waiting_by (Err Conflict) timeout now numbers key waiting = finite.remove waiting (message_key key)
+waiting_by (Err refusal) timeout now numbers key waiting = waiting
 
--- the book after a segment came in a datagram with this number
-abbrev pub book_after : Option SegmentOffer → ℕ → ℕ → Book → Book
-book_after None now k book = book
-book_after (Some o) now k book =
+-- the book after a segment came in a datagram with these numbers
+abbrev pub book_after : Option SegmentOffer → ℕ → Numbers → Book → Book
+book_after None now numbers book = book
+book_after (Some o) now numbers book =
     record {
       limits = book.limits;
       latest = now;
       parts = parts_by (judgement book.limits now o book.parts) o.key (parts_after book.limits now o book.parts);
-      waiting = waiting_by (judgement book.limits now o book.parts) book.limits.timeout now k o.key book.waiting;
+      waiting = waiting_by (judgement book.limits now o book.parts) book.limits.timeout now numbers o.key book.waiting;
     }
 
 -- a segment is accepted
@@ -111,7 +113,7 @@ is_accepted (Some o) now book = is_ok (judgement book.limits now o book.parts)
 
 -- a message waits, and would be told so
 abbrev pub IsWaiting : WaitTable → Missing → Type 0
-IsWaiting waiting missing = finite.get waiting (message_key missing.key) ≡ Some (record { k = missing.k; until = missing.until })
+IsWaiting waiting missing = finite.get waiting (message_key missing.key) ≡ Some (record { numbers = missing.numbers; until = missing.until })
 
 -- by timeout, and then by key
 abbrev pub missing_cmp : Missing → Missing → Ordering
@@ -133,7 +135,7 @@ book_after_due now told book = record book { latest = now; waiting = waiting_aft
 -- ---- codes, by which a proof tells values apart
 
 abbrev pub coded_waiting : Coded Waiting
-coded_waiting = code_by (ℕ × ℕ) (coded× coded_ℕ coded_ℕ) (λ w. (w.k, w.until)) (λ p. record { k = p.0; until = p.1 }) (λ _. refl)
+coded_waiting = code_by (Numbers × ℕ) (coded× coded_numbers coded_ℕ) (λ w. (w.numbers, w.until)) (λ p. record { numbers = p.0; until = p.1 }) (λ _. refl)
 
 abbrev pub coded_message_key : Coded MessageKey
 coded_message_key = code_by ReassemblyKey coded_key (λ k. k.0) message_key (λ _. refl)

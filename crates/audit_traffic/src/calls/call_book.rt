@@ -18,6 +18,7 @@ use crate::calls::finding::{CallFinding, CallRules, Unanswered};
 use crate::calls::known::OpenCall;
 use crate::calls::steps::{next_overdue, on_answer, on_request};
 use someip_tables::Moment;
+use someip_tables::hashed::Numbers;
 use someip_wire::{Message, MessageType};
 use std::alloc::{AllocError, Global};
 use std::marker::Model;
@@ -76,30 +77,30 @@ impl CallBook {
         self.calls.len(self.rules.limit)
     }
 
-    /// Takes note of a whole message of the datagram with number k, and says what it shows that is not
+    /// Takes note of a whole message of the datagram with these numbers, and says what it shows that is not
     /// as it should be. A message whose type has the TP flag is nothing to it: segments are put together
     /// before. It takes memory only where it changes what is known, and what is refused for it leaves
     /// the book as it was.
     pub fn saw(
         &mut self,
         now: Moment,
-        k: u64,
+        numbers: Numbers,
         from: SocketAddrV4,
         to: SocketAddrV4,
         message: &Message<'_>,
     ) -> Result<Option<CallFinding>, AllocError>
         ensures told { IfOk result (λ finding.
-            finding ≡ told (tapped now k from to message.now) self.old) }
+            finding ≡ told (tapped now numbers from to message.now) self.old) }
         ensures after { OnOk result
-            (self.new ≡ book_after (tapped now k from to message.now) self.old) }
+            (self.new ≡ book_after (tapped now numbers from to message.now) self.old) }
         ensures grows { OnErr result
-            (book_after (tapped now k from to message.now) self.old ≢ self.old) }
+            (book_after (tapped now numbers from to message.now) self.old ≢ self.old) }
         ensures unchanged { OnErr result (self.new ≡ self.old) }
     {
         match message.header.kind {
             MessageType::Request => {
                 let call = AuditedCall::asked(from, to, &message.header);
-                let opened = opened(&self.rules, now, k, message.payload);
+                let opened = opened(&self.rules, now, numbers, message.payload);
                 on_request(&mut self.calls, &self.rules, &mut self.full, call, opened)
             }
             MessageType::Response | MessageType::Error => {
@@ -139,11 +140,11 @@ impl CallBook {
 }
 
 /// A call as its REQUEST opens it.
-fn opened(rules: &CallRules, now: Moment, k: u64, payload: &[u8]) -> OpenCall
-    ensures { result ≡ open_with rules.now now k payload.now }
+fn opened(rules: &CallRules, now: Moment, numbers: Numbers, payload: &[u8]) -> OpenCall
+    ensures { result ≡ open_with rules.now now numbers payload.now }
 {
     OpenCall {
-        k,
+        numbers,
         since: now.as_millis(),
         until: now.as_millis() + u64::from(rules.answer_ms),
         excerpt: Excerpt::of(payload),

@@ -1,6 +1,7 @@
 //! What is told of calls.
 use crate::calls::call::AuditedCall;
 use someip_tables::Moment;
+use someip_tables::hashed::Numbers;
 
 /// The settings of a book of calls.
 #[derive(Clone, Copy, Debug, PartialEq, Eq)]
@@ -34,8 +35,8 @@ pub enum CallFinding {
 pub struct Unanswered {
     /// The call.
     pub call: AuditedCall,
-    /// The number of the datagram with its REQUEST.
-    pub k: u64,
+    /// The numbers of the datagram with its REQUEST.
+    pub numbers: Numbers,
     /// The moment of its REQUEST, in milliseconds.
     pub since: u64,
     /// Its deadline, in milliseconds.

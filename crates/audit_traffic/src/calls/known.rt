@@ -3,12 +3,13 @@ ghost use Rattle.std.specs.Prelude.{◌≡◌};
 ghost use Rattle.audit_traffic.specs.calls.KnownCalls.{known_at};
 
 use crate::calls::excerpt::Excerpt;
+use someip_tables::hashed::Numbers;
 
 /// A call that waits for its answer.
 #[derive(Clone, Copy)]
 pub(crate) struct OpenCall {
-    /// The number of the datagram with its REQUEST.
-    pub(crate) k: u64,
+    /// The numbers of the datagram with its REQUEST.
+    pub(crate) numbers: Numbers,
     /// The moment of its REQUEST, in milliseconds.
     pub(crate) since: u64,
     /// Its deadline, in milliseconds.

@@ -175,7 +175,7 @@ pub(crate) fn next_overdue(calls: &mut CallTable, limit: usize, now: Moment) -> 
     calls.tell(due.key, call.since);
     Some(Unanswered {
         call: due.key,
-        k: call.k,
+        numbers: call.numbers,
         since: call.since,
         until: call.until,
     })

@@ -7,6 +7,7 @@ ghost use Rattle.someip_wire.specs.Spelling.{MessageValue};
 ghost use Rattle.someip_wire.specs.Kinds.{has_tp_flag};
 ghost use Rattle.someip_reassembly.specs.declared.error.TpError.{TpError};
 ghost use Rattle.someip_reassembly.specs.declared.reassembly.Offered.TheVariants.{Part, Whole};
+ghost use Rattle.audit_traffic.specs.calls.Scenes.{numbered};
 ghost use Rattle.audit_traffic.specs.segments.SegmentBooks.{segment_of, told_by, whole_message, first_of};
 ghost use Rattle.audit_traffic.specs.segments.SegmentWaits.{still_until};
 
@@ -31,9 +32,9 @@ pub fn segments_are_told()
 /// Examples: a message waits until its timeout, and not at it; and it is told with the datagram that it
 /// began with, unless that one's message is over.
 pub fn timeouts_by_example()
-    ensures waits { still_until 6999 (Some (record { k = 3; until = 7000 })) ≡ Some 7000 }
-    ensures over { still_until 7000 (Some (record { k = 3; until = 7000 })) ≡ None }
-    ensures first { first_of 6999 9 (Some (record { k = 3; until = 7000 })) ≡ 3 }
-    ensures begins_anew { first_of 7000 9 (Some (record { k = 3; until = 7000 })) ≡ 9 }
-    ensures begins { first_of 7000 9 None ≡ 9 }
+    ensures waits { still_until 6999 (Some (record { numbers = numbered 3; until = 7000 })) ≡ Some 7000 }
+    ensures over { still_until 7000 (Some (record { numbers = numbered 3; until = 7000 })) ≡ None }
+    ensures first { first_of 6999 (numbered 9) (Some (record { numbers = numbered 3; until = 7000 })) ≡ numbered 3 }
+    ensures begins_anew { first_of 7000 (numbered 9) (Some (record { numbers = numbered 3; until = 7000 })) ≡ numbered 9 }
+    ensures begins { first_of 7000 (numbered 9) None ≡ numbered 9 }
 {}

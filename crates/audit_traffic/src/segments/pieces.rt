@@ -16,7 +16,7 @@ use crate::segments::told::{Missing, SegmentTold};
 use crate::segments::waiting::Waiting;
 use someip_reassembly::{Offered, Reassembly, ReassemblyKey, TpError};
 use someip_tables::Moment;
-use someip_tables::hashed::DueTable;
+use someip_tables::hashed::{DueTable, Numbers};
 use someip_wire::Header;
 use std::alloc::AllocError;
 
@@ -88,11 +88,11 @@ pub(crate) fn note(
     judged: Result<Offered, TpError>,
     timeout: u32,
     now: Moment,
-    k: u64,
+    numbers: Numbers,
     key: MessageKey,
 ) -> Result<(), AllocError>
     ensures ok { OnOk result (map_of message_cmp waiting.new
-        ≡ waiting_by judged timeout now k key.0 (map_of message_cmp waiting.old)) }
+        ≡ waiting_by judged timeout now numbers key.0 (map_of message_cmp waiting.old)) }
     ensures accepted { OnErr result (is_ok judged ≡ true) }
 {
     match judged {
@@ -101,7 +101,7 @@ pub(crate) fn note(
             waiting.insert(
                 key,
                 Waiting {
-                    k: first_of(before, now.as_millis(), k),
+                    numbers: first_of(before, now.as_millis(), numbers),
                     until: now.as_millis() + u64::from(timeout),
                 },
             )
@@ -114,14 +114,20 @@ pub(crate) fn note(
     }
 }
 
-/// The number of the datagram that a message began with, of which a segment comes in the datagram with
-/// number k.
-fn first_of(before: Option<Waiting>, now: u64, k: u64) -> u64
-    ensures { result ≡ first_of now k before }
+/// The numbers of the datagram that a message began with, of which a segment comes in the datagram with these
+/// numbers.
+fn first_of(before: Option<Waiting>, now: u64, numbers: Numbers) -> Numbers
+    ensures { result ≡ first_of now numbers before }
 {
     match before {
-        Some(waiting) => { if now < waiting.until { waiting.k } else { k } }
-        None => k,
+        Some(waiting) => {
+            if now < waiting.until {
+                waiting.numbers
+            } else {
+                numbers
+            }
+        }
+        None => numbers,
     }
 }
 
@@ -131,7 +137,7 @@ pub(crate) fn tell_piece<S: Reassembly>(
     waiting: &mut WaitTable,
     timeout: u32,
     now: Moment,
-    k: u64,
+    numbers: Numbers,
     header: &Header,
     piece: Piece<'_>,
     bytes: &mut Vec<u8>,
@@ -147,7 +153,7 @@ pub(crate) fn tell_piece<S: Reassembly>(
         (parts_after (S.limits store.old) now (piece_offer piece.entry) (S.parts store.old))) }
     ensures waiting { OnOk result (map_of message_cmp waiting.new ≡ waiting_by
         (judgement (S.limits store.old) now (piece_offer piece.entry) (S.parts store.old))
-        timeout now k piece.entry.key (map_of message_cmp waiting.old)) }
+        timeout now numbers piece.entry.key (map_of message_cmp waiting.old)) }
     ensures wanting { OnErr result (is_ok (judgement (S.limits store.old) now
         (piece_offer piece.entry) (S.parts store.old)) ≡ true) }
     ensures moments { NoneAfter now (S.parts store.new) }
@@ -159,7 +165,14 @@ pub(crate) fn tell_piece<S: Reassembly>(
         Ok(Offered::Whole) => take_whole(store, now.as_millis(), header, &piece.key, bytes)?,
         Err(refusal) => SegmentTold::Refused(refusal),
     };
-    note(waiting, judged, timeout, now, k, MessageKey(piece.key))?;
+    note(
+        waiting,
+        judged,
+        timeout,
+        now,
+        numbers,
+        MessageKey(piece.key),
+    )?;
     Ok(told)
 }
 
@@ -186,7 +199,7 @@ pub(crate) fn next_missing(waiting: &mut WaitTable, now: Moment) -> Option<Missi
             waiting.remove(&due.key);
             Some(Missing {
                 key: due.key.0,
-                k: told.k,
+                numbers: told.numbers,
                 until: told.until,
             })
         }

@@ -18,7 +18,7 @@ use crate::segments::pieces::{Piece, WaitTable, next_missing, tell_piece};
 use crate::segments::told::{Missing, SegmentTold};
 use someip_reassembly::{Reassembly, ReassemblyKey, read_segment};
 use someip_tables::Moment;
-use someip_tables::hashed::DueTable;
+use someip_tables::hashed::{DueTable, Numbers};
 use someip_wire::Message;
 use std::alloc::{AllocError, Global};
 use std::marker::Model;
@@ -95,7 +95,7 @@ impl<S: Reassembly> SegmentBook<S> {
         }
     }
 
-    /// Takes note of a message of the datagram with number k, and says what it is told of it: the whole
+    /// Takes note of a message of the datagram with these numbers, and says what it is told of it: the whole
     /// message that it completes, whose payload is then in `bytes`, or why it is refused. A message whose
     /// type has not the TP flag, and one without room for a TP header, are nothing to it.
     ///
@@ -103,7 +103,7 @@ impl<S: Reassembly> SegmentBook<S> {
     pub fn saw(
         &mut self,
         now: Moment,
-        k: u64,
+        numbers: Numbers,
         from: SocketAddrV4,
         to: SocketAddrV4,
         message: &Message<'_>,
@@ -112,7 +112,7 @@ impl<S: Reassembly> SegmentBook<S> {
         ensures told { IfOk result (λ told. view_told told bytes.new.items
             ≡ told_of message.now.header (segment_of from to (view message.now)) (max self.old.latest now) self.old) }
         ensures after { OnOk result (self.new
-            ≡ book_after (segment_of from to (view message.now)) (max self.old.latest now) k self.old) }
+            ≡ book_after (segment_of from to (view message.now)) (max self.old.latest now) numbers self.old) }
         ensures wanting { OnErr result (is_accepted (segment_of from to (view message.now))
             (max self.old.latest now) self.old ≡ true) }
         ensures forgets { OnErr result (self.new
@@ -136,7 +136,7 @@ impl<S: Reassembly> SegmentBook<S> {
                     &mut self.waiting,
                     self.timeout_ms,
                     self.latest,
-                    k,
+                    numbers,
                     &message.header,
                     piece,
                     bytes,

@@ -1,5 +1,6 @@
 //! What is told of segments.
 use someip_reassembly::{ReassemblyKey, TpError};
+use someip_tables::hashed::Numbers;
 use someip_wire::Header;
 
 /// What is told of a message that may be a segment.
@@ -18,8 +19,8 @@ pub enum SegmentTold {
 pub struct Missing {
     /// What its segments have in common.
     pub key: ReassemblyKey,
-    /// The number of the datagram with the first of its segments that came.
-    pub k: u64,
+    /// The numbers of the datagram with the first of its segments that came.
+    pub numbers: Numbers,
     /// Its timeout after its last segment, in milliseconds.
     pub until: u64,
 }

@@ -1,11 +1,12 @@
 //! Messages that have come in part, by their timeouts.
 use someip_tables::Waits;
+use someip_tables::hashed::Numbers;
 
 /// A message that has come in part.
 #[derive(Clone, Copy)]
 pub(crate) struct Waiting {
-    /// The number of the datagram with its first segment.
-    pub(crate) k: u64,
+    /// The numbers of the datagram with its first segment.
+    pub(crate) numbers: Numbers,
     /// Its timeout after its last segment, in milliseconds.
     pub(crate) until: u64,
 }

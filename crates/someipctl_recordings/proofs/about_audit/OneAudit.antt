@@ -2,7 +2,8 @@
 use Rattle.std.proofs.Common.{◌≡◌, ℕ, List, [], ◌∷◌, None, refl, ap, sym, subst, ◌∙◌}
 use Rattle.someip_audit.specs.Audits.{AuditState, Audits, Report, Seen, seen_messages}
 use Rattle.someip_audit.proofs.NextLemmas.{audits_one, drains_one, hears_one}
-use Rattle.someipctl_recordings.specs.audit.SeenIn.{AskedAudit, Tells, audit_at, looked_by, looked_more, looked_of}
+use Rattle.someipctl_recordings.specs.audit.AskedAudits.{AskedAudit}
+use Rattle.someipctl_recordings.specs.audit.SeenIn.{Tells, audit_at, looked_by, looked_more, looked_of}
 
 -- as many datagrams are looked at, and messages, whichever way it is told
 looked_by_one : (last : ℕ) (datagrams : List Seen) (state : AuditState) (reports others : List Report) (after other : AuditState)

@@ -1,5 +1,5 @@
 -- The audit of a recording so far.
-use Rattle.std.proofs.Common.{◌≡◌, ℕ, ◌+◌, ◌<◌, ◌≤◌, List, [], ◌∷◌, ◌++◌, map, length, Option, Some, None, Result, Ok, Err, refl, sym, ap, subst, ◌∙◌, append_assoc, inl, inr, arith, suc, nat_lt, lt-ltb, length-append}
+use Rattle.std.proofs.Common.{◌≡◌, ℕ, ◌+◌, ◌<◌, ◌≤◌, List, [], ◌∷◌, ◌++◌, map, length, Option, Some, None, Result, Ok, Err, refl, sym, ap, subst, ◌∙◌, append_assoc, inl, inr, arith, suc, nat_lt, false, lt-ltb, length-append}
 use Rattle.std.specs.List.{flat_map}
 use Rattle.std.specs.Option.{option_to_list}
 use Rattle.std.specs.Result.{IfOk}
@@ -7,9 +7,8 @@ use Rattle.std.proofs.lemmas.List.{append-nil}
 use Rattle.std.proofs.lemmas.Grind.{flat_map-append}
 use Rattle.recording.specs.declared.RecordingError.{RecordingError}
 use Rattle.recording.specs.Captured.{RecordValue}
-use Rattle.recording.specs.Packets.{DatagramValue}
-use Rattle.recording_packets.specs.Intake.{ArrivalValue, IntakeValue, after_packet, after_packets, arrived, left_out_at, nothing_taken}
-use Rattle.recording_packets.proofs.IntakeLemmas.{after_packets-append}
+use Rattle.recording_packets.specs.Intake.{ArrivalValue, IntakeValue, after_packet, after_packets, arrivals, arrived, left_out_at, nothing_taken}
+use Rattle.recording_packets.proofs.IntakeLemmas.{after_packets-append, arrivals-append}
 use Rattle.someipctl_recordings.specs.declared.recordings.FileFault.{FileFault}
 use Rattle.recording.specs.Readers.{CanFollow, ReaderValue, to_come}
 use Rattle.recording.specs.Records.{Item}
@@ -29,14 +28,15 @@ use Rattle.someipctl_recordings.specs.declared.audit.audits.Gone.{Gone}
 use Rattle.someipctl_recordings.specs.declared.audit.auditing.SeenDatagram.{SeenDatagram}
 use Rattle.someipctl_recordings.specs.declared.audit.tally.Tally.{Tally}
 use Rattle.someipctl_recordings.specs.audit.Scenes.{view_seen}
+use Rattle.someipctl_recordings.specs.audit.AskedAudits.{AskedAudit}
 use Rattle.someipctl_recordings.specs.audit.AuditResult.{BeginsAudit, IsAuditText, ShowsAudit, has_findings}
-use Rattle.someipctl_recordings.specs.audit.AuditText.{Looked, audit_text, fell_line, report_line, report_lines, summary_text}
+use Rattle.someipctl_recordings.specs.audit.AuditText.{Looked, audit_text, fell_line, report_line, report_lines, summary_text, told_of}
 use Rattle.someipctl_recordings.specs.audit.Runs.{EndsWith, PutsAudit, PutsDatagram, PutsEnd, PutsLast, PutsNext, PutsRecord, StopsDatagram, StopsEnd, StopsLast, StopsNext, StopsRecord}
-use Rattle.someipctl_recordings.specs.audit.SeenIn.{AskedAudit, Tells, TellsSome, audit_at, datagrams_from, datagrams_in, looked_more, looked_of, none_looked, seen_from, seen_in, seen_next}
-use Rattle.someipctl_recordings.specs.audit.Steps.{CountsMore, PutsSeen, StopsSeen}
+use Rattle.someipctl_recordings.specs.audit.SeenIn.{Tells, TellsSome, arrivals_in, audit_at, looked_more, looked_of, none_looked, seen_from, seen_in, seen_next}
+use Rattle.someipctl_recordings.specs.audit.Steps.{CountsMore, PutsSeen, StopsSeen, fell_told, is_told_at}
 use Rattle.someipctl_recordings.specs.audit.Tallies.{Counts}
 use Rattle.someipctl_recordings.proofs.about_audit.StepLemmas.{counts_none, stops_here}
-use Rattle.someipctl_recordings.proofs.about_audit.SeenLemmas.{datagrams-append, Goes, heard_same, latest, latest-append, looked_all, looked_first, looked_moved, looked_plus, seen_more, some_heard, some_same, some_step, tells_nothing, tells_step, time_now}
+use Rattle.someipctl_recordings.proofs.about_audit.SeenLemmas.{Goes, fell_told_in, heard_same, heard_told, latest, latest-append, looked_all, looked_first, looked_moved, looked_plus, seen_more, some_heard, some_same, some_step, tells_nothing, tells_step, time_now, told_on}
 
 pub if_ok_three : {T E : Type 0} (r : Result T E) (P Q R S : T → Type 0) → ((x : T) → P x → Q x → R x → S x) → IfOk r P → IfOk r Q → IfOk r R → IfOk r S
 if_ok_three (Ok x) P Q R S f p q t = f x p q t
@@ -45,11 +45,11 @@ if_ok_three (Err e) P Q R S f p q t = tt
 -- ---- so far
 
 -- the datagrams of the items that came, and what is known of the packets after them
-abbrev pub came : AskedAudit → List Item → List DatagramValue
-came asked items = datagrams_from asked.packets (nothing_taken asked.packets) items
+abbrev pub came : AskedAudit → List Item → List ArrivalValue
+came asked items = arrivals asked.wanted.packets (nothing_taken asked.wanted.packets) items
 
 abbrev pub taken : AskedAudit → List Item → IntakeValue
-taken asked items = after_packets asked.packets (nothing_taken asked.packets) items
+taken asked items = after_packets asked.wanted.packets (nothing_taken asked.wanted.packets) items
 
 -- the items that came were gone over, and none of them is a fault
 pub record IsAudited (asked : AskedAudit) (inputs ares : List (Option (List ℕ))) (k : ℕ) (r : ReaderValue) (before after : Option (List ℕ)) (held : List ℕ) (audit : Option AuditState) (gone : Gone) (s : IntakeValue) : Type 0 where
@@ -57,18 +57,18 @@ pub record IsAudited (asked : AskedAudit) (inputs ares : List (Option (List ℕ)
   pub reports : List Report
   pub looked : Looked
   pub reads : AreRead inputs ares k r done
-  pub sends : (others : List DatagramValue) → Sends before [] after held (report_lines (came asked done ++ others) reports)
+  pub sends : (others : List ArrivalValue) → Sends before [] after held (report_lines asked (came asked done ++ others) reports)
   pub number : gone.datagrams ≡ length (came asked done)
   pub moment : gone.now ≡ latest 0 (came asked done)
   pub goes : (others : List Seen) (rest : List Report) (t : Tells asked gone.now audit others rest)
       → Goes asked (seen_in (came asked done) ++ others) (reports ++ rest) (looked_plus looked (looked_of asked gone.now audit others rest t))
   pub some : (others : List Seen) (rest : List Report) → TellsSome asked gone.now audit others rest → TellsSome asked 0 None (seen_in (came asked done) ++ others) (reports ++ rest)
-  pub counts : Counts gone.tally reports looked
+  pub counts : (others : List ArrivalValue) → Counts gone.tally (told_of asked (came asked done ++ others) reports) looked
   pub took : s ≡ taken asked done
   pub none : fault_among done ≡ None
 
 pub audited_begin : (asked : AskedAudit) (inputs : List (Option (List ℕ))) (r : ReaderValue) (before : Option (List ℕ)) (held : List ℕ) (audit : Option AuditState) (gone : Gone) (s : IntakeValue)
-    → r ≡ begin → held ≡ [] → audit ≡ None → Counts gone.tally [] none_looked → gone.datagrams ≡ 0 → gone.now ≡ 0 → s ≡ (nothing_taken asked.packets)
+    → r ≡ begin → held ≡ [] → audit ≡ None → Counts gone.tally [] none_looked → gone.datagrams ≡ 0 → gone.now ≡ 0 → s ≡ (nothing_taken asked.wanted.packets)
     → IsAudited asked inputs inputs 0 r before before held audit gone s
 audited_begin asked inputs r before held audit gone s is empty none counts number moment nothing = record {
   done = [];
@@ -83,7 +83,7 @@ audited_begin asked inputs r before held audit gone s is empty none counts numbe
       (λ others rest t. (t, sym (looked_first (looked_of asked 0 None others rest t)))));
   some = subst (λ n. (others : List Seen) (rest : List Report) → TellsSome asked n audit others rest → TellsSome asked 0 None others rest) (sym moment)
       (subst (λ a. (others : List Seen) (rest : List Report) → TellsSome asked 0 a others rest → TellsSome asked 0 None others rest) (sym none) (λ others rest t. t));
-  counts = counts;
+  counts = λ others. counts;
   took = nothing;
   none = refl;
 }
@@ -97,13 +97,13 @@ audited_as asked inputs ares next k m r new before after later held waits audit 
   reports = is.reports;
   looked = is.looked;
   reads = reads;
-  sends = λ others. subst (λ (l : List DatagramValue). Sends before [] later waits (report_lines (l ++ others) is.reports)) (sym same)
-      (Sends-flush before after later [] held waits (report_lines (came asked is.done ++ others) is.reports) (is.sends others) sends);
+  sends = λ others. subst (λ (l : List ArrivalValue). Sends before [] later waits (report_lines asked (l ++ others) is.reports)) (sym same)
+      (Sends-flush before after later [] held waits (report_lines asked (came asked is.done ++ others) is.reports) (is.sends others) sends);
   number = is.number ∙ ap length (sym same);
   moment = is.moment ∙ ap (latest 0) (sym same);
-  goes = subst (λ (l : List DatagramValue). (others : List Seen) (rest : List Report) (t : Tells asked gone.now audit others rest) → Goes asked (seen_in l ++ others) (is.reports ++ rest) (looked_plus is.looked (looked_of asked gone.now audit others rest t))) (sym same) is.goes;
-  some = subst (λ (l : List DatagramValue). (others : List Seen) (rest : List Report) → TellsSome asked gone.now audit others rest → TellsSome asked 0 None (seen_in l ++ others) (is.reports ++ rest)) (sym same) is.some;
-  counts = is.counts;
+  goes = subst (λ (l : List ArrivalValue). (others : List Seen) (rest : List Report) (t : Tells asked gone.now audit others rest) → Goes asked (seen_in l ++ others) (is.reports ++ rest) (looked_plus is.looked (looked_of asked gone.now audit others rest t))) (sym same) is.goes;
+  some = subst (λ (l : List ArrivalValue). (others : List Seen) (rest : List Report) → TellsSome asked gone.now audit others rest → TellsSome asked 0 None (seen_in l ++ others) (is.reports ++ rest)) (sym same) is.some;
+  counts = λ others. subst (λ (l : List ArrivalValue). Counts gone.tally (told_of asked (l ++ others) is.reports) is.looked) (sym same) (is.counts others);
   took = takes;
   none = none;
 }
@@ -127,50 +127,51 @@ audited_next asked inputs ares next k r new fresh now before after later held wa
 -- ---- the end
 
 -- what fell due by the last moment was printed
-pub record IsLast (now : ℕ) (audit : Option AuditState) (tally later : Tally) (a : Option (List ℕ)) (held : List ℕ) (b : Option (List ℕ)) (waits : List ℕ) : Type 0 where
+pub record IsLast (asked : AskedAudit) (now : ℕ) (audit : Option AuditState) (tally later : Tally) (a : Option (List ℕ)) (held : List ℕ) (b : Option (List ℕ)) (waits : List ℕ) : Type 0 where
   pub told : List FellDue
   pub ends : EndsWith now audit told
-  pub sends : Sends a held b waits (flat_map fell_line told)
-  pub counts : CountsMore tally later (map fell told)
+  pub sends : Sends a held b waits (flat_map (fell_line asked) told)
+  pub counts : CountsMore tally later (fell_told asked told)
 
-pub last_ends : (now : ℕ) (audit : Option AuditState) (tally later : Tally) (a : Option (List ℕ)) (held : List ℕ) (b : Option (List ℕ)) (waits : List ℕ) → PutsLast now audit tally later a held b waits
-    → IsLast now audit tally later a held b waits
-last_ends now None tally later a held b waits puts = record {
+pub last_ends : (asked : AskedAudit) (now : ℕ) (audit : Option AuditState) (tally later : Tally) (a : Option (List ℕ)) (held : List ℕ) (b : Option (List ℕ)) (waits : List ℕ) → PutsLast asked now audit tally later a held b waits
+    → IsLast asked now audit tally later a held b waits
+last_ends asked now None tally later a held b waits puts = record {
   told = [];
   ends = refl;
   sends = puts.1;
   counts = subst (λ t. CountsMore tally t []) (sym puts.0) (counts_none tally);
 }
-last_ends now (Some state) tally later a held b waits puts = record { told = puts.1.told; ends = (puts.0, puts.1.drains); sends = puts.1.sends; counts = puts.1.counts }
+last_ends asked now (Some state) tally later a held b waits puts = record { told = puts.1.told; ends = (puts.0, puts.1.drains); sends = puts.1.sends; counts = puts.1.counts }
 
 has_some : (n : ℕ) (reports : List Report) → n ≡ length reports → nat_lt 0 n ≡ has_findings reports
 has_some n [] is = ap (nat_lt 0) is
 has_some n (report ∷ reports) is = ap (nat_lt 0) is ∙ lt-ltb 0 (suc (length reports)) (omega arith)
 
-pub end_puts : (gone : Gone) (audit : Option AuditState) (later : Tally) (reports : List Report) (looked : Looked) (a : Option (List ℕ)) (held : List ℕ) (b : Option (List ℕ)) (waits : List ℕ) (c : Option (List ℕ)) (new : List ℕ) (shown : ShownRecording)
-    → PutsLast gone.now audit gone.tally later a held b waits → Counts gone.tally reports looked
-    → ((all : List Report) → Counts later all looked → Sends b waits c new (summary_text looked all)) → shown.outcome ≡ fault_outcome (nat_lt 0 later.findings)
-    → PutsEnd gone audit reports looked a held c new shown
-end_puts gone audit later reports looked a held b waits c new shown puts counts summary outcome =
-    let last = last_ends gone.now audit gone.tally later a held b waits puts in
+pub end_puts : (asked : AskedAudit) (gone : Gone) (audit : Option AuditState) (later : Tally) (reports : List Report) (looked : Looked) (a : Option (List ℕ)) (held : List ℕ) (b : Option (List ℕ)) (waits : List ℕ) (c : Option (List ℕ)) (new : List ℕ) (shown : ShownRecording)
+    → PutsLast asked gone.now audit gone.tally later a held b waits → Counts gone.tally reports looked
+    → ((all : List Report) → Counts later all looked → Sends b waits c new (summary_text looked all)) → shown.outcome ≡ fault_outcome (nat_lt 0 later.findings) → shown.is_full ≡ false
+    → PutsEnd asked gone audit reports looked a held c new shown
+end_puts asked gone audit later reports looked a held b waits c new shown puts counts summary outcome full =
+    let last = last_ends asked gone.now audit gone.tally later a held b waits puts in
     let all = last.counts reports looked counts in
     record {
       told = last.told;
       ends = last.ends;
-      sends = Sends-trans a b c held waits new (flat_map fell_line last.told) (summary_text looked (reports ++ map fell last.told)) last.sends (summary (reports ++ map fell last.told) all);
-      outcome = outcome ∙ ap fault_outcome (has_some later.findings (reports ++ map fell last.told) all.findings);
+      sends = Sends-trans a b c held waits new (flat_map (fell_line asked) last.told) (summary_text looked (reports ++ fell_told asked last.told)) last.sends (summary (reports ++ fell_told asked last.told) all);
+      outcome = outcome ∙ ap fault_outcome (has_some later.findings (reports ++ fell_told asked last.told) all.findings);
+      full = full;
     }
 
-pub end_stops : (gone : Gone) (audit : Option AuditState) (later : Tally) (reports : List Report) (looked : Looked) (a : Option (List ℕ)) (held : List ℕ) (b : Option (List ℕ)) (waits : List ℕ) (c : Option (List ℕ))
-    → PutsLast gone.now audit gone.tally later a held b waits → Counts gone.tally reports looked
-    → ((all : List Report) → Counts later all looked → Stops b waits c (summary_text looked all)) → StopsEnd gone audit reports looked a held c
-end_stops gone audit later reports looked a held b waits c puts counts summary =
-    let last = last_ends gone.now audit gone.tally later a held b waits puts in
+pub end_stops : (asked : AskedAudit) (gone : Gone) (audit : Option AuditState) (later : Tally) (reports : List Report) (looked : Looked) (a : Option (List ℕ)) (held : List ℕ) (b : Option (List ℕ)) (waits : List ℕ) (c : Option (List ℕ))
+    → PutsLast asked gone.now audit gone.tally later a held b waits → Counts gone.tally reports looked
+    → ((all : List Report) → Counts later all looked → Stops b waits c (summary_text looked all)) → StopsEnd asked gone audit reports looked a held c
+end_stops asked gone audit later reports looked a held b waits c puts counts summary =
+    let last = last_ends asked gone.now audit gone.tally later a held b waits puts in
     inr (record {
       told = last.told;
       ends = last.ends;
-      stops = Stops-after a b c held waits (flat_map fell_line last.told) (summary_text looked (reports ++ map fell last.told)) last.sends
-          (summary (reports ++ map fell last.told) (last.counts reports looked counts));
+      stops = Stops-after a b c held waits (flat_map (fell_line asked) last.told) (summary_text looked (reports ++ fell_told asked last.told)) last.sends
+          (summary (reports ++ fell_told asked last.told) (last.counts reports looked counts));
     })
 
 -- ---- a datagram
@@ -178,23 +179,23 @@ end_stops gone audit later reports looked a held b waits c puts counts summary =
 pub begin_stops : (asked : AskedAudit) (s : SeenDatagram) (audit : Option AuditState) (a : Option (List ℕ)) (held : List ℕ) → StopsNext asked s audit a held a
 begin_stops asked s audit a held = record { told = []; some = inl ([], tt, refl); stops = stops_here a held a held [] (Sends-nil a held) }
 
-pub next_puts : (asked : AskedAudit) (s : SeenDatagram) (d : DatagramValue) (before after : Option AuditState) (gone : Gone) (tally : Tally) (a : Option (List ℕ)) (held : List ℕ) (b : Option (List ℕ)) (waits : List ℕ)
-    → view_seen s ≡ seen_next gone.datagrams gone.now d → s.time ≡ d.time → PutsNext asked s before after gone.tally tally a held b waits
+pub next_puts : (asked : AskedAudit) (s : SeenDatagram) (d : ArrivalValue) (before after : Option AuditState) (gone : Gone) (tally : Tally) (a : Option (List ℕ)) (held : List ℕ) (b : Option (List ℕ)) (waits : List ℕ)
+    → view_seen s ≡ seen_next gone.datagrams gone.now d → s.time ≡ d.datagram.time → PutsNext asked s before after gone.tally tally a held b waits
     → PutsDatagram asked d before after gone (record { datagrams = gone.datagrams + 1; now = s.now; tally = tally }) a held b waits
 next_puts asked s d before after gone tally a held b waits seen time puts = record {
   state = puts.state;
   is = puts.is;
-  puts = subst (λ x. PutsSeen d.time x (audit_at asked before x) puts.state gone.tally tally a held b waits) seen
-      (subst (λ t. PutsSeen t (view_seen s) (audit_at asked before (view_seen s)) puts.state gone.tally tally a held b waits) time puts.puts);
+  puts = subst (λ x. PutsSeen asked d.datagram.time x (audit_at asked before x) puts.state gone.tally tally a held b waits) seen
+      (subst (λ t. PutsSeen asked t (view_seen s) (audit_at asked before (view_seen s)) puts.state gone.tally tally a held b waits) time puts.puts);
   number = refl;
   moment = ap (λ (x : Seen). x.now) seen;
 }
 
-pub next_stops : (asked : AskedAudit) (s : SeenDatagram) (d : DatagramValue) (before : Option AuditState) (gone : Gone) (a : Option (List ℕ)) (held : List ℕ) (b : Option (List ℕ))
-    → view_seen s ≡ seen_next gone.datagrams gone.now d → s.time ≡ d.time → StopsNext asked s before a held b → StopsDatagram asked d before gone a held b
+pub next_stops : (asked : AskedAudit) (s : SeenDatagram) (d : ArrivalValue) (before : Option AuditState) (gone : Gone) (a : Option (List ℕ)) (held : List ℕ) (b : Option (List ℕ))
+    → view_seen s ≡ seen_next gone.datagrams gone.now d → s.time ≡ d.datagram.time → StopsNext asked s before a held b → StopsDatagram asked d before gone a held b
 next_stops asked s d before gone a held b seen time stops =
-    subst (λ x. StopsSeen d.time x (audit_at asked before x) a held b) seen
-    (subst (λ t. StopsSeen t (view_seen s) (audit_at asked before (view_seen s)) a held b) time stops)
+    subst (λ x. StopsSeen asked d.datagram.time x (audit_at asked before x) a held b) seen
+    (subst (λ t. StopsSeen asked t (view_seen s) (audit_at asked before (view_seen s)) a held b) time stops)
 
 -- it is gone over
 goes_more : (asked : AskedAudit) (last : ℕ) (audit : Option AuditState) (seens : List Seen) (reports : List Report) (looked : Looked) (seen : Seen) (state : AuditState) (first : List Report)
@@ -220,37 +221,32 @@ some_more asked last audit seens reports seen state first hears some others rest
     (subst (TellsSome asked 0 None (seens ++ seen ∷ others)) (sym (append_assoc reports first rest))
     (some (seen ∷ others) (first ++ rest) (some_step asked last audit seen state first hears others rest t)))
 
-one_longer : (n : ℕ) (ds : List DatagramValue) (d : DatagramValue) → n ≡ length ds → n + 1 ≡ length (ds ++ d ∷ [])
+one_longer : (n : ℕ) (ds : List ArrivalValue) (d : ArrivalValue) → n ≡ length ds → n + 1 ≡ length (ds ++ d ∷ [])
 one_longer n ds d is = ap (λ k. k + 1) is ∙ sym (length-append ds (d ∷ []))
 
 -- the text of what was told before, and of what is told of the datagram
-lines_on : (all : List DatagramValue) (reports more : List Report) → report_lines all reports ++ report_lines all more ≡ report_lines all (reports ++ more)
-lines_on all reports more = sym (flat_map-append (report_line all) reports more)
-
--- the datagram that a record gives
-one_came : (asked : AskedAudit) (s : IntakeValue) (found : RecordValue) (given : Option ArrivalValue) → arrived asked.packets s found ≡ given
-    → datagrams_from asked.packets s (Ok found ∷ []) ≡ map (λ (a : ArrivalValue). a.datagram) (option_to_list given ++ [])
-one_came asked s found given is = ap (λ g. map (λ (a : ArrivalValue). a.datagram) (option_to_list g ++ [])) is
+lines_on : (asked : AskedAudit) (all : List ArrivalValue) (reports more : List Report) → report_lines asked all reports ++ report_lines asked all more ≡ report_lines asked all (reports ++ more)
+lines_on asked all reports more = sym (flat_map-append (report_line asked all) reports more)
 
 -- the datagrams after one more record
-came_more : (asked : AskedAudit) (done : List Item) (s : IntakeValue) (found : RecordValue) (given : Option ArrivalValue) → s ≡ taken asked done → arrived asked.packets s found ≡ given
-    → came asked (done ++ Ok found ∷ []) ≡ came asked done ++ map (λ (a : ArrivalValue). a.datagram) (option_to_list given ++ [])
+came_more : (asked : AskedAudit) (done : List Item) (s : IntakeValue) (found : RecordValue) (given : Option ArrivalValue) → s ≡ taken asked done → arrived asked.wanted.packets s found ≡ given
+    → came asked (done ++ Ok found ∷ []) ≡ came asked done ++ (option_to_list given ++ [])
 came_more asked done s found given took is =
-    datagrams-append asked.packets (nothing_taken asked.packets) done (Ok found ∷ [])
-    ∙ ap (λ (q : IntakeValue). came asked done ++ datagrams_from asked.packets q (Ok found ∷ [])) (sym took)
-    ∙ ap (λ (l : List DatagramValue). came asked done ++ l) (one_came asked s found given is)
+    arrivals-append asked.wanted.packets (nothing_taken asked.wanted.packets) done (Ok found ∷ [])
+    ∙ ap (λ (q : IntakeValue). came asked done ++ arrivals asked.wanted.packets q (Ok found ∷ [])) (sym took)
+    ∙ ap (λ g. came asked done ++ (option_to_list g ++ [])) is
 
 -- what is known of the packets after one more
-took_more : (asked : AskedAudit) (done : List Item) (s : IntakeValue) (found : RecordValue) → s ≡ taken asked done → after_packet asked.packets s found ≡ taken asked (done ++ Ok found ∷ [])
+took_more : (asked : AskedAudit) (done : List Item) (s : IntakeValue) (found : RecordValue) → s ≡ taken asked done → after_packet asked.wanted.packets s found ≡ taken asked (done ++ Ok found ∷ [])
 took_more asked done s found took =
-    ap (λ q. after_packet asked.packets q found) took ∙ sym (after_packets-append asked.packets (nothing_taken asked.packets) done (Ok found ∷ []))
+    ap (λ q. after_packet asked.wanted.packets q found) took ∙ sym (after_packets-append asked.wanted.packets (nothing_taken asked.wanted.packets) done (Ok found ∷ []))
 
 pub audited_datagram : (asked : AskedAudit) (inputs ares step_to : List (Option (List ℕ))) (k : ℕ) (r new : ReaderValue) (now before after later last : Option (List ℕ)) (held waits rest : List ℕ) (audit next : Option AuditState) (gone more : Gone) (s : IntakeValue) (found : RecordValue) (arrival : ArrivalValue)
     → IsAudited asked inputs ares k r before after held audit gone s → k < length ares → IsStep ares step_to k now → Comes r new (left_at ares k) now (Ok found ∷ []) → Sends after held later waits []
-    → arrived asked.packets s found ≡ Some arrival → PutsDatagram asked arrival.datagram audit next gone more later waits last rest
-    → IsAudited asked inputs step_to k new before last rest next more (after_packet asked.packets s found)
+    → arrived asked.wanted.packets s found ≡ Some arrival → PutsDatagram asked arrival audit next gone more later waits last rest
+    → IsAudited asked inputs step_to k new before last rest next more (after_packet asked.wanted.packets s found)
 audited_datagram asked inputs ares step_to k r new now before after later last held waits rest audit next gone more s found arrival is within step comes sends given puts =
-    let d = arrival.datagram in
+    let d = arrival in
     let ds = came asked is.done in
     let seen = seen_next gone.datagrams gone.now d in
     let told = puts.puts.told in
@@ -263,18 +259,25 @@ audited_datagram asked inputs ares step_to k r new now before after later last h
       looked = looked_more (seen_messages seen hears.between) is.looked;
       reads = reads_more inputs ares step_to k r new now is.done (Ok found ∷ []) is.reads within step comes;
       sends = λ others.
-          let whole : ds ++ d ∷ others ≡ came asked (is.done ++ Ok found ∷ []) ++ others = sym (append_assoc ds (d ∷ []) others) ∙ ap (λ (l : List DatagramValue). l ++ others) (sym all) in
-          subst (λ (l : List DatagramValue). Sends before [] last rest (report_lines l (is.reports ++ told))) whole
-          (subst (Sends before [] last rest) (lines_on (ds ++ d ∷ others) is.reports told)
-          (Sends-trans before later last [] waits rest (report_lines (ds ++ d ∷ others) is.reports) (report_lines (ds ++ d ∷ others) told)
-          (Sends-flush before after later [] held waits (report_lines (ds ++ d ∷ others) is.reports) (is.sends (d ∷ others)) sends)
+          let whole : ds ++ d ∷ others ≡ came asked (is.done ++ Ok found ∷ []) ++ others = sym (append_assoc ds (d ∷ []) others) ∙ ap (λ (l : List ArrivalValue). l ++ others) (sym all) in
+          subst (λ (l : List ArrivalValue). Sends before [] last rest (report_lines asked l (is.reports ++ told))) whole
+          (subst (Sends before [] last rest) (lines_on asked (ds ++ d ∷ others) is.reports told)
+          (Sends-trans before later last [] waits rest (report_lines asked (ds ++ d ∷ others) is.reports) (report_lines asked (ds ++ d ∷ others) told)
+          (Sends-flush before after later [] held waits (report_lines asked (ds ++ d ∷ others) is.reports) (is.sends (d ∷ others)) sends)
           (subst (Sends later waits last rest)
-          (heard_same (ds ++ d ∷ others) d.time seen (audit_at asked audit seen) puts.state told (time_now gone.datagrams ds d others is.number) hears) puts.puts.sends)));
+          (heard_same asked (ds ++ d ∷ others) d.datagram.time seen (audit_at asked audit seen) puts.state told (time_now gone.datagrams ds d others is.number) hears) puts.puts.sends)));
       number = puts.number ∙ one_longer gone.datagrams ds d is.number ∙ ap length (sym all);
-      moment = puts.moment ∙ ap (λ n. moment_of n d.time) is.moment ∙ sym (latest-append 0 ds d) ∙ ap (latest 0) (sym all);
+      moment = puts.moment ∙ ap (λ n. moment_of n d.datagram.time) is.moment ∙ sym (latest-append 0 ds d) ∙ ap (latest 0) (sym all);
       goes = moved (is.reports ++ told) (looked_more (seen_messages seen hears.between) is.looked) seens puts.is puts.moment (goes_more asked gone.now audit (seen_in ds) is.reports is.looked seen puts.state told hears is.goes);
       some = moved_some (is.reports ++ told) seens puts.is puts.moment (some_more asked gone.now audit (seen_in ds) is.reports seen puts.state told hears is.some);
-      counts = puts.puts.counts is.reports is.looked is.counts;
+      counts = λ others.
+          let whole : ds ++ d ∷ others ≡ came asked (is.done ++ Ok found ∷ []) ++ others = sym (append_assoc ds (d ∷ []) others) ∙ ap (λ (l : List ArrivalValue). l ++ others) (sym all) in
+          let before_it = told_of asked (ds ++ d ∷ others) is.reports in
+          subst (λ (l : List ArrivalValue). Counts more.tally (told_of asked l (is.reports ++ told)) (looked_more (seen_messages seen hears.between) is.looked)) whole
+          (subst (λ (l : List Report). Counts more.tally l (looked_more (seen_messages seen hears.between) is.looked))
+          (ap (λ (l : List Report). before_it ++ l) (heard_told asked (ds ++ d ∷ others) d.datagram.time seen (audit_at asked audit seen) puts.state told (time_now gone.datagrams ds d others is.number) hears)
+          ∙ sym (told_on asked (ds ++ d ∷ others) is.reports told))
+          (puts.puts.counts before_it is.looked (is.counts (d ∷ others))));
       took = took_more asked is.done s found is.took;
       none = fault-append is.done (Ok found ∷ []) is.none;
     }
@@ -300,39 +303,39 @@ audited_datagram asked inputs ares step_to k r new now before after later last h
 -- any record
 pub audited_record : (asked : AskedAudit) (inputs ares step_to : List (Option (List ℕ))) (k : ℕ) (r new : ReaderValue) (now before after later last : Option (List ℕ)) (held waits rest : List ℕ) (audit next : Option AuditState) (gone more : Gone) (s : IntakeValue) (found : RecordValue)
     → IsAudited asked inputs ares k r before after held audit gone s → k < length ares → IsStep ares step_to k now → Comes r new (left_at ares k) now (Ok found ∷ []) → Sends after held later waits []
-    → PutsRecord asked (arrived asked.packets s found) audit next gone more later waits last rest → IsAudited asked inputs step_to k new before last rest next more (after_packet asked.packets s found)
+    → PutsRecord asked (arrived asked.wanted.packets s found) audit next gone more later waits last rest → IsAudited asked inputs step_to k new before last rest next more (after_packet asked.wanted.packets s found)
 audited_record asked inputs ares step_to k r new now before after later last held waits rest audit next gone more s found is within step comes sends puts =
-    go (arrived asked.packets s found) refl puts
+    go (arrived asked.wanted.packets s found) refl puts
   where
-    go : (given : Option ArrivalValue) → arrived asked.packets s found ≡ given → PutsRecord asked given audit next gone more later waits last rest
-        → IsAudited asked inputs step_to k new before last rest next more (after_packet asked.packets s found)
+    go : (given : Option ArrivalValue) → arrived asked.wanted.packets s found ≡ given → PutsRecord asked given audit next gone more later waits last rest
+        → IsAudited asked inputs step_to k new before last rest next more (after_packet asked.wanted.packets s found)
     go (Some arrival) given puts = audited_datagram asked inputs ares step_to k r new now before after later last held waits rest audit next gone more s found arrival is within step comes sends given puts
     go None given puts =
         let reads = reads_more inputs ares step_to k r new now is.done (Ok found ∷ []) is.reads within step comes in
         let same : came asked (is.done ++ Ok found ∷ []) ≡ came asked is.done = came_more asked is.done s found None is.took given ∙ append-nil (came asked is.done) in
-        subst (λ a. IsAudited asked inputs step_to k new before last rest a more (after_packet asked.packets s found)) (sym puts.0)
-        (subst (λ g. IsAudited asked inputs step_to k new before last rest audit g (after_packet asked.packets s found)) (sym puts.1)
-        (audited_as asked inputs ares step_to k k r new before after last held rest audit gone s (after_packet asked.packets s found) (is.done ++ Ok found ∷ []) is reads same
+        subst (λ a. IsAudited asked inputs step_to k new before last rest a more (after_packet asked.wanted.packets s found)) (sym puts.0)
+        (subst (λ g. IsAudited asked inputs step_to k new before last rest audit g (after_packet asked.wanted.packets s found)) (sym puts.1)
+        (audited_as asked inputs ares step_to k k r new before after last held rest audit gone s (after_packet asked.wanted.packets s found) (is.done ++ Ok found ∷ []) is reads same
         (took_more asked is.done s found is.took) (fault-append is.done (Ok found ∷ []) is.none) (Sends-flush after later last held waits rest [] sends puts.2)))
 
 -- ---- a beginning
 
-begins_some : (asked : AskedAudit) (inputs : List (Option (List ℕ))) (before last : Option (List ℕ)) (files : List (List ℕ)) → WereLeft inputs files → (ds : List DatagramValue) → datagrams_in asked.packets files ≡ ds
-    → (reports : List Report) → TellsSome asked 0 None (seen_in ds) reports → Stops before [] last (report_lines ds reports) → BeginsAudit inputs asked before last
+begins_some : (asked : AskedAudit) (inputs : List (Option (List ℕ))) (before last : Option (List ℕ)) (files : List (List ℕ)) → WereLeft inputs files → (ds : List ArrivalValue) → arrivals_in asked.wanted.packets files ≡ ds
+    → (reports : List Report) → TellsSome asked 0 None (seen_in ds) reports → Stops before [] last (report_lines asked ds reports) → BeginsAudit inputs asked before last
 begins_some asked inputs before last files left ds all reports some stops = record {
   files = files;
   left = left;
   sent = stops.sends.sent;
   unsent = stops.unsent;
   wrote = stops.sends.wrote;
-  beginning = subst (λ (l : List DatagramValue). IsAuditText asked l (stops.sends.sent ++ stops.unsent)) (sym all) (inl (reports, some, stops.sends.rest));
+  beginning = subst (λ (l : List ArrivalValue). IsAuditText asked l (stops.sends.sent ++ stops.unsent)) (sym all) (inl (reports, some, stops.sends.rest));
 }
 
 -- nothing was written
 pub begins_nothing : (asked : AskedAudit) (inputs : List (Option (List ℕ))) (before : Option (List ℕ)) → BeginsAudit inputs asked before before
 begins_nothing asked inputs before =
     let f = part_files inputs inputs 0 begin [] (reads_begin inputs begin refl) in
-    begins_some asked inputs before before f.files f.left (datagrams_in asked.packets f.files) refl [] (tells_nothing asked 0 None (seen_in (datagrams_in asked.packets f.files))) (stops_here before [] before [] [] (Sends-nil before []))
+    begins_some asked inputs before before f.files f.left (arrivals_in asked.wanted.packets f.files) refl [] (tells_nothing asked 0 None (seen_in (arrivals_in asked.wanted.packets f.files))) (stops_here before [] before [] [] (Sends-nil before []))
 
 -- where it stops before the next item
 pub stops_before : (asked : AskedAudit) (inputs ares : List (Option (List ℕ))) (k : ℕ) (r : ReaderValue) (before after later : Option (List ℕ)) (held : List ℕ) (audit : Option AuditState) (gone : Gone) (s : IntakeValue)
@@ -340,47 +343,47 @@ pub stops_before : (asked : AskedAudit) (inputs ares : List (Option (List ℕ)))
 stops_before asked inputs ares k r before after later held audit gone s is stops =
     let f = part_files inputs ares k r is.done is.reads in
     let ds = came asked is.done in
-    let more = datagrams_from asked.packets (taken asked is.done) f.rest in
+    let more = arrivals asked.wanted.packets (taken asked is.done) f.rest in
     let seens = seen_from gone.datagrams gone.now more in
-    begins_some asked inputs before later f.files f.left (ds ++ more) (ap (datagrams_from asked.packets (nothing_taken asked.packets)) f.came ∙ datagrams-append asked.packets (nothing_taken asked.packets) is.done f.rest) is.reports
+    begins_some asked inputs before later f.files f.left (ds ++ more) (ap (arrivals asked.wanted.packets (nothing_taken asked.wanted.packets)) f.came ∙ arrivals-append asked.wanted.packets (nothing_taken asked.wanted.packets) is.done f.rest) is.reports
     (subst (λ (l : List Seen). TellsSome asked 0 None l is.reports) (sym (seen_more gone ds more is.number is.moment))
     (subst (TellsSome asked 0 None (seen_in ds ++ seens)) (append-nil is.reports) (is.some seens [] (tells_nothing asked gone.now audit seens))))
-    (subst (Stops before [] later) (append-nil (report_lines (ds ++ more) is.reports)) (Stops-after before after later [] held (report_lines (ds ++ more) is.reports) [] (is.sends more) stops))
+    (subst (Stops before [] later) (append-nil (report_lines asked (ds ++ more) is.reports)) (Stops-after before after later [] held (report_lines asked (ds ++ more) is.reports) [] (is.sends more) stops))
 
 -- where it stops within a datagram
 stops_datagram : (asked : AskedAudit) (inputs ares step_to : List (Option (List ℕ))) (k : ℕ) (r new : ReaderValue) (now before after later last : Option (List ℕ)) (held waits : List ℕ) (audit : Option AuditState) (gone : Gone) (s : IntakeValue) (found : RecordValue) (arrival : ArrivalValue)
     → IsAudited asked inputs ares k r before after held audit gone s → k < length ares → IsStep ares step_to k now → Comes r new (left_at ares k) now (Ok found ∷ []) → Sends after held later waits []
-    → arrived asked.packets s found ≡ Some arrival → StopsDatagram asked arrival.datagram audit gone later waits last → BeginsAudit inputs asked before last
+    → arrived asked.wanted.packets s found ≡ Some arrival → StopsDatagram asked arrival audit gone later waits last → BeginsAudit inputs asked before last
 stops_datagram asked inputs ares step_to k r new now before after later last held waits audit gone s found arrival is within step comes sends given stops =
-    let d = arrival.datagram in
+    let d = arrival in
     let items = is.done ++ Ok found ∷ [] in
     let f = part_files inputs step_to k new items (reads_more inputs ares step_to k r new now is.done (Ok found ∷ []) is.reads within step comes) in
     let ds = came asked is.done in
-    let more = datagrams_from asked.packets (taken asked items) f.rest in
+    let more = arrivals asked.wanted.packets (taken asked items) f.rest in
     let seen = seen_next gone.datagrams gone.now d in
-    let others = seen_from (gone.datagrams + 1) (moment_of gone.now d.time) more in
-    let all : datagrams_in asked.packets f.files ≡ ds ++ d ∷ more =
-    ap (datagrams_from asked.packets (nothing_taken asked.packets)) f.came ∙ datagrams-append asked.packets (nothing_taken asked.packets) items f.rest
-    ∙ ap (λ (l : List DatagramValue). l ++ more) (came_more asked is.done s found (Some arrival) is.took given) ∙ append_assoc ds (d ∷ []) more in
+    let others = seen_from (gone.datagrams + 1) (moment_of gone.now d.datagram.time) more in
+    let all : arrivals_in asked.wanted.packets f.files ≡ ds ++ d ∷ more =
+    ap (arrivals asked.wanted.packets (nothing_taken asked.wanted.packets)) f.came ∙ arrivals-append asked.wanted.packets (nothing_taken asked.wanted.packets) items f.rest
+    ∙ ap (λ (l : List ArrivalValue). l ++ more) (came_more asked is.done s found (Some arrival) is.took given) ∙ append_assoc ds (d ∷ []) more in
     begins_some asked inputs before last f.files f.left (ds ++ d ∷ more) all (is.reports ++ stops.told)
     (subst (λ (l : List Seen). TellsSome asked 0 None l (is.reports ++ stops.told)) (sym (seen_more gone ds (d ∷ more) is.number is.moment))
     (is.some (seen ∷ others) stops.told (some_heard asked gone.now audit seen others stops.told stops.some)))
-    (subst (Stops before [] last) (lines_on (ds ++ d ∷ more) is.reports stops.told)
-    (Stops-after before later last [] waits (report_lines (ds ++ d ∷ more) is.reports) (report_lines (ds ++ d ∷ more) stops.told)
-    (Sends-flush before after later [] held waits (report_lines (ds ++ d ∷ more) is.reports) (is.sends (d ∷ more)) sends)
+    (subst (Stops before [] last) (lines_on asked (ds ++ d ∷ more) is.reports stops.told)
+    (Stops-after before later last [] waits (report_lines asked (ds ++ d ∷ more) is.reports) (report_lines asked (ds ++ d ∷ more) stops.told)
+    (Sends-flush before after later [] held waits (report_lines asked (ds ++ d ∷ more) is.reports) (is.sends (d ∷ more)) sends)
     (subst (Stops later waits last)
-    (some_same (ds ++ d ∷ more) d.time seen (audit_at asked audit seen) stops.told (time_now gone.datagrams ds d more is.number) stops.some) stops.stops)))
+    (some_same asked (ds ++ d ∷ more) d.datagram.time seen (audit_at asked audit seen) stops.told (time_now gone.datagrams ds d more is.number) stops.some) stops.stops)))
 
 pub stops_record : (asked : AskedAudit) (inputs ares step_to : List (Option (List ℕ))) (k : ℕ) (r new : ReaderValue) (now before after later last : Option (List ℕ)) (held waits : List ℕ) (audit : Option AuditState) (gone : Gone) (s : IntakeValue) (found : RecordValue)
     → IsAudited asked inputs ares k r before after held audit gone s → k < length ares → IsStep ares step_to k now → Comes r new (left_at ares k) now (Ok found ∷ []) → Sends after held later waits []
-    → StopsRecord asked (arrived asked.packets s found) audit gone later waits last → BeginsAudit inputs asked before last
+    → StopsRecord asked (arrived asked.wanted.packets s found) audit gone later waits last → BeginsAudit inputs asked before last
 stops_record asked inputs ares step_to k r new now before after later last held waits audit gone s found is within step comes sends stops =
-    go (arrived asked.packets s found) refl stops
+    go (arrived asked.wanted.packets s found) refl stops
   where
     stops_later : (a b c : Option (List ℕ)) (held waits text : List ℕ) → Sends a held b waits [] → Stops b waits c text → Stops a held c text
     stops_later a b c held waits text sends stops = Stops-after a b c held waits [] text sends stops
 
-    go : (given : Option ArrivalValue) → arrived asked.packets s found ≡ given → StopsRecord asked given audit gone later waits last → BeginsAudit inputs asked before last
+    go : (given : Option ArrivalValue) → arrived asked.wanted.packets s found ≡ given → StopsRecord asked given audit gone later waits last → BeginsAudit inputs asked before last
     go (Some arrival) given stops = stops_datagram asked inputs ares step_to k r new now before after later last held waits audit gone s found arrival is within step comes sends given stops
     go None given stops = stops_before asked inputs ares k r before after last held audit gone s is (stops_later after later last held waits [] sends stops)
 
@@ -391,9 +394,9 @@ record_stops asked None audit gone a held = stops_here a held a held [] (Sends-n
 
 -- ---- the whole
 
-fell_text : (all : List DatagramValue) (told : List FellDue) → flat_map fell_line told ≡ report_lines all (map fell told)
-fell_text all [] = refl
-fell_text all (one ∷ told) = ap (λ (t : List ℕ). fell_line one ++ t) (fell_text all told)
+fell_text : (asked : AskedAudit) (all : List ArrivalValue) (told : List FellDue) → flat_map (fell_line asked) told ≡ report_lines asked all (map fell told)
+fell_text asked all [] = refl
+fell_text asked all (one ∷ told) = ap (λ (t : List ℕ). fell_line asked one ++ t) (fell_text asked all told)
 
 -- what fell due at the end
 ends_tells : (asked : AskedAudit) (now : ℕ) (audit : Option AuditState) (told : List FellDue) → EndsWith now audit told
@@ -409,51 +412,68 @@ goes_end asked now audit seens reports looked told ends goes =
     let so = goes [] (map fell told) t.0 in
     subst (λ (l : List Seen). Goes asked l (reports ++ map fell told) looked) (append-nil seens) (so.0, so.1 ∙ ap (looked_plus looked) t.1 ∙ looked_all looked)
 
+-- those that are told before the end, and of what fell due then
+told_end : (asked : AskedAudit) (ds : List ArrivalValue) (reports : List Report) (told : List FellDue)
+    → told_of asked ds reports ++ fell_told asked told ≡ told_of asked ds (reports ++ map fell told)
+told_end asked ds reports told =
+    ap (λ (l : List Report). told_of asked ds reports ++ l) (fell_told_in asked ds told) ∙ sym (told_on asked ds reports (map fell told))
+
 -- the text before the summary, and with it
-text_end : (ds : List DatagramValue) (reports : List Report) (told : List FellDue) (looked : Looked)
-    → report_lines ds reports ++ (flat_map fell_line told ++ summary_text looked (reports ++ map fell told)) ≡ audit_text ds (reports ++ map fell told) looked
-text_end ds reports told looked =
-    let summary = summary_text looked (reports ++ map fell told) in
-    sym (append_assoc (report_lines ds reports) (flat_map fell_line told) summary)
-    ∙ ap (λ (t : List ℕ). (report_lines ds reports ++ t) ++ summary) (fell_text ds told)
-    ∙ ap (λ (t : List ℕ). t ++ summary) (lines_on ds reports (map fell told))
+text_end : (asked : AskedAudit) (ds : List ArrivalValue) (reports : List Report) (told : List FellDue) (looked : Looked)
+    → report_lines asked ds reports ++ (flat_map (fell_line asked) told ++ summary_text looked (told_of asked ds reports ++ fell_told asked told))
+    ≡ audit_text asked ds (reports ++ map fell told) looked
+text_end asked ds reports told looked =
+    let summary = summary_text looked (told_of asked ds (reports ++ map fell told)) in
+    ap (λ (l : List Report). report_lines asked ds reports ++ (flat_map (fell_line asked) told ++ summary_text looked l)) (told_end asked ds reports told)
+    ∙ sym (append_assoc (report_lines asked ds reports) (flat_map (fell_line asked) told) summary)
+    ∙ ap (λ (t : List ℕ). (report_lines asked ds reports ++ t) ++ summary) (fell_text asked ds told)
+    ∙ ap (λ (t : List ℕ). t ++ summary) (lines_on asked ds reports (map fell told))
 
 -- the datagrams of files of which no more come
-whole_datagrams : (asked : AskedAudit) (files : List (List ℕ)) (done items : List Item) → items_of_files files ≡ done ++ items → ((q : IntakeValue) → datagrams_from asked.packets q items ≡ [])
-    → datagrams_in asked.packets files ≡ came asked done
+whole_datagrams : (asked : AskedAudit) (files : List (List ℕ)) (done items : List Item) → items_of_files files ≡ done ++ items → ((q : IntakeValue) → arrivals asked.wanted.packets q items ≡ [])
+    → arrivals_in asked.wanted.packets files ≡ came asked done
 whole_datagrams asked files done items is none =
-    ap (datagrams_from asked.packets (nothing_taken asked.packets)) is ∙ datagrams-append asked.packets (nothing_taken asked.packets) done items
-    ∙ ap (λ (l : List DatagramValue). came asked done ++ l) (none (taken asked done)) ∙ append-nil (came asked done)
+    ap (arrivals asked.wanted.packets (nothing_taken asked.wanted.packets)) is ∙ arrivals-append asked.wanted.packets (nothing_taken asked.wanted.packets) done items
+    ∙ ap (λ (l : List ArrivalValue). came asked done ++ l) (none (taken asked done)) ∙ append-nil (came asked done)
+
+-- those that were told so far
+abbrev pub told_now : (asked : AskedAudit) (done : List Item) (reports : List Report) → List Report
+told_now asked done reports = told_of asked (came asked done) reports
+
+pub counts_now : (asked : AskedAudit) (inputs ares : List (Option (List ℕ))) (k : ℕ) (r : ReaderValue) (before after : Option (List ℕ)) (held : List ℕ) (audit : Option AuditState) (gone : Gone) (s : IntakeValue)
+    (is : IsAudited asked inputs ares k r before after held audit gone s) → Counts gone.tally (told_now asked is.done is.reports) is.looked
+counts_now asked inputs ares k r before after held audit gone s is =
+    subst (λ (l : List ArrivalValue). Counts gone.tally (told_of asked l is.reports) is.looked) (append-nil (came asked is.done)) (is.counts [])
 
 -- what was told before the end
 sent_before : (asked : AskedAudit) (inputs ares : List (Option (List ℕ))) (k : ℕ) (r : ReaderValue) (before after later : Option (List ℕ)) (held waits : List ℕ) (audit : Option AuditState) (gone : Gone) (s : IntakeValue)
-    (is : IsAudited asked inputs ares k r before after held audit gone s) → Sends after held later waits [] → Sends before [] later waits (report_lines (came asked is.done) is.reports)
+    (is : IsAudited asked inputs ares k r before after held audit gone s) → Sends after held later waits [] → Sends before [] later waits (report_lines asked (came asked is.done) is.reports)
 sent_before asked inputs ares k r before after later held waits audit gone s is sends =
-    Sends-flush before after later [] held waits (report_lines (came asked is.done) is.reports)
-    (subst (λ (l : List DatagramValue). Sends before [] after held (report_lines l is.reports)) (append-nil (came asked is.done)) (is.sends [])) sends
+    Sends-flush before after later [] held waits (report_lines asked (came asked is.done) is.reports)
+    (subst (λ (l : List ArrivalValue). Sends before [] after held (report_lines asked l is.reports)) (append-nil (came asked is.done)) (is.sends [])) sends
 
 -- the text of an audit was sent
-abbrev EndText : AskedAudit → ShownRecording → Option (List ℕ) → Option (List ℕ) → List ℕ → List DatagramValue → Type 0
+abbrev EndText : AskedAudit → ShownRecording → Option (List ℕ) → Option (List ℕ) → List ℕ → List ArrivalValue → Type 0
 EndText asked shown before last rest ds =
     (reports : List Report) × (told : Tells asked 0 None (seen_in ds) reports)
-    × Sends before [] last rest (audit_text ds reports (looked_of asked 0 None (seen_in ds) reports told)) × (shown.outcome ≡ fault_outcome (has_findings reports))
+    × Sends before [] last rest (audit_text asked ds reports (looked_of asked 0 None (seen_in ds) reports told)) × (shown.outcome ≡ fault_outcome (has_findings (told_of asked ds reports)))
 
 audit_whole : (asked : AskedAudit) (inputs ares : List (Option (List ℕ))) (k : ℕ) (r : ReaderValue) (before after later last : Option (List ℕ)) (held waits rest : List ℕ) (audit : Option AuditState) (gone : Gone) (s : IntakeValue) (items : List Item) (fault : Option FileFault) (shown : ShownRecording)
     → (is : IsAudited asked inputs ares k r before after held audit gone s) → WholeFiles inputs (is.done ++ items) fault → Sends after held later waits []
-    → ((q : IntakeValue) → datagrams_from asked.packets q items ≡ []) → ((q : IntakeValue) → after_packets asked.packets q items ≡ q)
-    → PutsEnd gone audit is.reports is.looked later waits last rest shown → shown.fault ≡ fault → shown.left_out ≡ left_out_at s → PutsAudit inputs asked shown before last rest
+    → ((q : IntakeValue) → arrivals asked.wanted.packets q items ≡ []) → ((q : IntakeValue) → after_packets asked.wanted.packets q items ≡ q)
+    → PutsEnd asked gone audit (told_now asked is.done is.reports) is.looked later waits last rest shown → shown.fault ≡ fault → shown.left_out ≡ left_out_at s → PutsAudit inputs asked shown before last rest
 audit_whole asked inputs ares k r before after later last held waits rest audit gone s items fault shown is f sends empty untaken end faulty left =
     let ds = came asked is.done in
     let goes = goes_end asked gone.now audit (seen_in ds) is.reports is.looked end.told end.ends is.goes in
-    let text : EndText asked shown before last rest (datagrams_in asked.packets f.files) =
+    let text : EndText asked shown before last rest (arrivals_in asked.wanted.packets f.files) =
     subst (EndText asked shown before last rest) (sym (whole_datagrams asked f.files is.done items f.came empty)) (
       is.reports ++ map fell end.told,
       goes.0,
-      subst (λ l. Sends before [] last rest (audit_text ds (is.reports ++ map fell end.told) l)) (sym goes.1)
-          (subst (Sends before [] last rest) (text_end ds is.reports end.told is.looked)
-          (Sends-trans before later last [] waits rest (report_lines ds is.reports) (flat_map fell_line end.told ++ summary_text is.looked (is.reports ++ map fell end.told))
+      subst (λ l. Sends before [] last rest (audit_text asked ds (is.reports ++ map fell end.told) l)) (sym goes.1)
+          (subst (Sends before [] last rest) (text_end asked ds is.reports end.told is.looked)
+          (Sends-trans before later last [] waits rest (report_lines asked ds is.reports) (flat_map (fell_line asked) end.told ++ summary_text is.looked (told_now asked is.done is.reports ++ fell_told asked end.told))
           (sent_before asked inputs ares k r before after later held waits audit gone s is sends) end.sends)),
-      end.outcome,
+      end.outcome ∙ ap (λ (l : List Report). fault_outcome (has_findings l)) (told_end asked ds is.reports end.told),
     ) in
     record {
       files = f.files;
@@ -463,7 +483,8 @@ audit_whole asked inputs ares k r before after later last held waits rest audit 
       told = text.1;
       sends = text.2;
       tells = text.3;
-      counts = left ∙ ap left_out_at (is.took ∙ sym (ap (after_packets asked.packets (nothing_taken asked.packets)) f.came ∙ after_packets-append asked.packets (nothing_taken asked.packets) is.done items ∙ untaken (taken asked is.done)));
+      full = end.full;
+      counts = left ∙ ap left_out_at (is.took ∙ sym (ap (after_packets asked.wanted.packets (nothing_taken asked.wanted.packets)) f.came ∙ after_packets-append asked.wanted.packets (nothing_taken asked.wanted.packets) is.done items ∙ untaken (taken asked is.done)));
     }
 
 -- no file is left
@@ -471,25 +492,25 @@ whole_end : (asked : AskedAudit) (inputs ares : List (Option (List ℕ))) (k : �
 whole_end asked inputs ares k r done reads past = subst (λ (l : List Item). WholeFiles inputs l None) (sym (append-nil done)) (reads_all inputs ares k r done reads past)
 
 pub audit_ends : (asked : AskedAudit) (inputs ares : List (Option (List ℕ))) (k : ℕ) (r : ReaderValue) (before after last : Option (List ℕ)) (held rest : List ℕ) (audit : Option AuditState) (gone : Gone) (s : IntakeValue) (shown : ShownRecording)
-    → (is : IsAudited asked inputs ares k r before after held audit gone s) → length ares ≤ k → PutsEnd gone audit is.reports is.looked after held last rest shown → shown.fault ≡ None → shown.left_out ≡ left_out_at s
+    → (is : IsAudited asked inputs ares k r before after held audit gone s) → length ares ≤ k → PutsEnd asked gone audit (told_now asked is.done is.reports) is.looked after held last rest shown → shown.fault ≡ None → shown.left_out ≡ left_out_at s
     → PutsAudit inputs asked shown before last rest
 audit_ends asked inputs ares k r before after last held rest audit gone s shown is past end faulty left =
     audit_whole asked inputs ares k r before after after last held held rest audit gone s [] None shown is (whole_end asked inputs ares k r is.done is.reads past) (Sends-nil after held) (λ q. refl) (λ q. refl) end faulty left
 
 pub audit_fault : (asked : AskedAudit) (inputs ares : List (Option (List ℕ))) (k : ℕ) (r new : ReaderValue) (now before after later last : Option (List ℕ)) (held waits rest : List ℕ) (audit : Option AuditState) (gone : Gone) (s : IntakeValue) (fault : RecordingError) (shown : ShownRecording)
     → (is : IsAudited asked inputs ares k r before after held audit gone s) → k < length ares → Comes r new (left_at ares k) now (Err fault ∷ []) → ((rest : List ℕ) → CanFollow new.is_whole rest → to_come new rest ≡ [])
-    → Sends after held later waits [] → PutsEnd gone audit is.reports is.looked later waits last rest shown → shown.fault ≡ Some (told k fault) → shown.left_out ≡ left_out_at s
+    → Sends after held later waits [] → PutsEnd asked gone audit (told_now asked is.done is.reports) is.looked later waits last rest shown → shown.fault ≡ Some (told k fault) → shown.left_out ≡ left_out_at s
     → PutsAudit inputs asked shown before last rest
 audit_fault asked inputs ares k r new now before after later last held waits rest audit gone s fault shown is within comes none sends end faulty left =
     audit_whole asked inputs ares k r before after later last held waits rest audit gone s (Err fault ∷ []) (Some (told k fault)) shown is
     (reads_fault inputs ares k r new now is.done fault is.reads within comes none is.none) sends (λ q. refl) (λ q. refl) end faulty left
 
 -- the text of an audit, of which a beginning was sent
-abbrev StopText : AskedAudit → Option (List ℕ) → Option (List ℕ) → List DatagramValue → Type 0
+abbrev StopText : AskedAudit → Option (List ℕ) → Option (List ℕ) → List ArrivalValue → Type 0
 StopText asked before last ds =
-    (reports : List Report) × (told : Tells asked 0 None (seen_in ds) reports) × Stops before [] last (audit_text ds reports (looked_of asked 0 None (seen_in ds) reports told))
+    (reports : List Report) × (told : Tells asked 0 None (seen_in ds) reports) × Stops before [] last (audit_text asked ds reports (looked_of asked 0 None (seen_in ds) reports told))
 
-begins_whole : (asked : AskedAudit) (inputs : List (Option (List ℕ))) (before last : Option (List ℕ)) (files : List (List ℕ)) → WereLeft inputs files → StopText asked before last (datagrams_in asked.packets files) → BeginsAudit inputs asked before last
+begins_whole : (asked : AskedAudit) (inputs : List (Option (List ℕ))) (before last : Option (List ℕ)) (files : List (List ℕ)) → WereLeft inputs files → StopText asked before last (arrivals_in asked.wanted.packets files) → BeginsAudit inputs asked before last
 begins_whole asked inputs before last files left text = record {
   files = files;
   left = left;
@@ -503,22 +524,22 @@ begins_whole asked inputs before last files left text = record {
 record Fallen (asked : AskedAudit) (now : ℕ) (audit : Option AuditState) (a : Option (List ℕ)) (held : List ℕ) (b : Option (List ℕ)) : Type 0 where
   told : List FellDue
   some : TellsSome asked now audit [] (map fell told)
-  stops : Stops a held b (flat_map fell_line told)
+  stops : Stops a held b (flat_map (fell_line asked) told)
 
-last_stops : (asked : AskedAudit) (now : ℕ) (audit : Option AuditState) (a : Option (List ℕ)) (held : List ℕ) (b : Option (List ℕ)) → StopsLast now audit a held b → Fallen asked now audit a held b
+last_stops : (asked : AskedAudit) (now : ℕ) (audit : Option AuditState) (a : Option (List ℕ)) (held : List ℕ) (b : Option (List ℕ)) → StopsLast asked now audit a held b → Fallen asked now audit a held b
 last_stops asked now None a held b stops = absurd stops
 last_stops asked now (Some state) a held b stops = record { told = stops.told; some = (stops.told, stops.some, refl); stops = stops.stops }
 
 whole_stops : (asked : AskedAudit) (inputs ares : List (Option (List ℕ))) (k : ℕ) (r : ReaderValue) (before after later last : Option (List ℕ)) (held waits : List ℕ) (audit : Option AuditState) (gone : Gone) (s : IntakeValue) (items : List Item) (fault : Option FileFault)
     → (is : IsAudited asked inputs ares k r before after held audit gone s) → WholeFiles inputs (is.done ++ items) fault → Sends after held later waits []
-    → ((q : IntakeValue) → datagrams_from asked.packets q items ≡ []) → StopsEnd gone audit is.reports is.looked later waits last → BeginsAudit inputs asked before last
+    → ((q : IntakeValue) → arrivals asked.wanted.packets q items ≡ []) → StopsEnd asked gone audit (told_now asked is.done is.reports) is.looked later waits last → BeginsAudit inputs asked before last
 whole_stops asked inputs ares k r before after later last held waits audit gone s items fault is f sends empty (inl stops) =
     let ds = came asked is.done in
     let fallen = last_stops asked gone.now audit later waits last stops in
     begins_some asked inputs before last f.files f.left ds (whole_datagrams asked f.files is.done items f.came empty) (is.reports ++ map fell fallen.told)
     (subst (λ (l : List Seen). TellsSome asked 0 None l (is.reports ++ map fell fallen.told)) (append-nil (seen_in ds)) (is.some [] (map fell fallen.told) fallen.some))
-    (subst (Stops before [] last) (ap (λ (t : List ℕ). report_lines ds is.reports ++ t) (fell_text ds fallen.told) ∙ lines_on ds is.reports (map fell fallen.told))
-    (Stops-after before later last [] waits (report_lines ds is.reports) (flat_map fell_line fallen.told) (sent_before asked inputs ares k r before after later held waits audit gone s is sends) fallen.stops))
+    (subst (Stops before [] last) (ap (λ (t : List ℕ). report_lines asked ds is.reports ++ t) (fell_text asked ds fallen.told) ∙ lines_on asked ds is.reports (map fell fallen.told))
+    (Stops-after before later last [] waits (report_lines asked ds is.reports) (flat_map (fell_line asked) fallen.told) (sent_before asked inputs ares k r before after later held waits audit gone s is sends) fallen.stops))
 whole_stops asked inputs ares k r before after later last held waits audit gone s items fault is f sends empty (inr end) =
     let ds = came asked is.done in
     let goes = goes_end asked gone.now audit (seen_in ds) is.reports is.looked end.told end.ends is.goes in
@@ -526,20 +547,20 @@ whole_stops asked inputs ares k r before after later last held waits audit gone 
     (subst (StopText asked before last) (sym (whole_datagrams asked f.files is.done items f.came empty)) (
       is.reports ++ map fell end.told,
       goes.0,
-      subst (λ l. Stops before [] last (audit_text ds (is.reports ++ map fell end.told) l)) (sym goes.1)
-          (subst (Stops before [] last) (text_end ds is.reports end.told is.looked)
-          (Stops-after before later last [] waits (report_lines ds is.reports) (flat_map fell_line end.told ++ summary_text is.looked (is.reports ++ map fell end.told))
+      subst (λ l. Stops before [] last (audit_text asked ds (is.reports ++ map fell end.told) l)) (sym goes.1)
+          (subst (Stops before [] last) (text_end asked ds is.reports end.told is.looked)
+          (Stops-after before later last [] waits (report_lines asked ds is.reports) (flat_map (fell_line asked) end.told ++ summary_text is.looked (told_now asked is.done is.reports ++ fell_told asked end.told))
           (sent_before asked inputs ares k r before after later held waits audit gone s is sends) end.stops)),
     ))
 
 pub audit_end_stops : (asked : AskedAudit) (inputs ares : List (Option (List ℕ))) (k : ℕ) (r : ReaderValue) (before after last : Option (List ℕ)) (held : List ℕ) (audit : Option AuditState) (gone : Gone) (s : IntakeValue)
-    → (is : IsAudited asked inputs ares k r before after held audit gone s) → length ares ≤ k → StopsEnd gone audit is.reports is.looked after held last → BeginsAudit inputs asked before last
+    → (is : IsAudited asked inputs ares k r before after held audit gone s) → length ares ≤ k → StopsEnd asked gone audit (told_now asked is.done is.reports) is.looked after held last → BeginsAudit inputs asked before last
 audit_end_stops asked inputs ares k r before after last held audit gone s is past stops =
     whole_stops asked inputs ares k r before after after last held held audit gone s [] None is (whole_end asked inputs ares k r is.done is.reads past) (Sends-nil after held) (λ q. refl) stops
 
 pub audit_fault_stops : (asked : AskedAudit) (inputs ares : List (Option (List ℕ))) (k : ℕ) (r new : ReaderValue) (now before after later last : Option (List ℕ)) (held waits : List ℕ) (audit : Option AuditState) (gone : Gone) (s : IntakeValue) (fault : RecordingError)
     → (is : IsAudited asked inputs ares k r before after held audit gone s) → k < length ares → Comes r new (left_at ares k) now (Err fault ∷ []) → ((rest : List ℕ) → CanFollow new.is_whole rest → to_come new rest ≡ [])
-    → Sends after held later waits [] → StopsEnd gone audit is.reports is.looked later waits last → BeginsAudit inputs asked before last
+    → Sends after held later waits [] → StopsEnd asked gone audit (told_now asked is.done is.reports) is.looked later waits last → BeginsAudit inputs asked before last
 audit_fault_stops asked inputs ares k r new now before after later last held waits audit gone s fault is within comes none sends stops =
     whole_stops asked inputs ares k r before after later last held waits audit gone s (Err fault ∷ []) (Some (told k fault)) is
     (reads_fault inputs ares k r new now is.done fault is.reads within comes none is.none) sends (λ q. refl) stops
@@ -549,15 +570,15 @@ audit_fault_stops asked inputs ares k r new now before after later last held wai
 pub puts_begun : (asked : AskedAudit) (inputs : List (Option (List ℕ))) (before later last : Option (List ℕ)) (waits : List ℕ) (shown : ShownRecording) → PutsAudit inputs asked shown before later waits
     → Stops later waits last [] → BeginsAudit inputs asked before last
 puts_begun asked inputs before later last waits shown p stops =
-    let ds = datagrams_in asked.packets p.files in
-    let text = audit_text ds p.reports (looked_of asked 0 None (seen_in ds) p.reports p.told) in
+    let ds = arrivals_in asked.wanted.packets p.files in
+    let text = audit_text asked ds p.reports (looked_of asked 0 None (seen_in ds) p.reports p.told) in
     begins_whole asked inputs before last p.files p.left (p.reports, p.told, Stops-flush before later last [] waits text p.sends stops)
 
 pub puts_shown : (asked : AskedAudit) (inputs : List (Option (List ℕ))) (before later last : Option (List ℕ)) (waits new : List ℕ) (shown : ShownRecording) → PutsAudit inputs asked shown before later waits
     → Sends later waits last new [] → new ≡ [] → ShowsAudit inputs asked shown before last
 puts_shown asked inputs before later last waits new shown p sends empty =
-    let ds = datagrams_in asked.packets p.files in
-    let text = audit_text ds p.reports (looked_of asked 0 None (seen_in ds) p.reports p.told) in
+    let ds = arrivals_in asked.wanted.packets p.files in
+    let text = audit_text asked ds p.reports (looked_of asked 0 None (seen_in ds) p.reports p.told) in
     record {
       files = p.files;
       left = p.left;
@@ -567,4 +588,5 @@ puts_shown asked inputs before later last waits new shown p sends empty =
       wrote = Sends-all before last [] new text (Sends-flush before later last [] waits new text p.sends sends) refl empty;
       tells = p.tells;
       counts = p.counts;
+      full = p.full;
     }

@@ -1,57 +1,54 @@
 -- What an audit tells of the datagrams that come, and of those after them.
-use Rattle.std.proofs.Common.{◌≡◌, ℕ, ◌+◌, ◌-◌, List, [], ◌∷◌, ◌++◌, map, length, Option, Some, None, refl, sym, ap, ◌∙◌, inl, inr, arith, add-zero, suc}
+use Rattle.std.proofs.Common.{◌≡◌, ℕ, ◌+◌, ◌-◌, Bool, true, false, List, [], ◌∷◌, ◌++◌, map, filter, if◌then◌else◌, length, Option, Some, None, refl, sym, ap, ◌∙◌, inl, inr, arith, add-zero, suc}
 use Rattle.std.specs.Prelude.{◌⊎◌, slice_get, option_and_then}
 use Rattle.std.specs.List.{flat_map}
-use Rattle.std.proofs.lemmas.List.{append-nil, map-append}
+use Rattle.std.proofs.lemmas.List.{append-nil}
+use Rattle.std.proofs.lemmas.List.Elements.{filter-append}
 use Rattle.std.proofs.lemmas.Grind.{flat_map-append}
 use Rattle.recording.specs.declared.Time.{Time}
-use Rattle.recording.specs.Packets.{DatagramValue}
-use Rattle.recording.specs.Records.{Item}
-use Rattle.recording_packets.specs.Chosen.{ChosenValue}
-use Rattle.recording_packets.specs.Intake.{ArrivalValue, IntakeValue, after_packets, arrivals}
-use Rattle.recording_packets.proofs.IntakeLemmas.{arrivals-append}
+use Rattle.recording_packets.specs.Intake.{ArrivalValue}
 use Rattle.someip_tables.specs.declared.hashed.Origin.{Origin}
 use Rattle.someip_audit.specs.declared.FellDue.{FellDue}
 use Rattle.someip_audit.specs.declared.Finding.{Finding}
 use Rattle.someip_audit.specs.Audits.{AuditState, Hears, Report, Seen, fell, found, seen_messages, seen_shown}
 use Rattle.someipctl_recordings.specs.Moments.{moment_of}
+use Rattle.someip_audit.specs.FellDues.{deadline}
+use Rattle.someipctl_recordings.specs.Wanted.{WantedValue}
 use Rattle.someipctl_recordings.specs.declared.audit.audits.Gone.{Gone}
-use Rattle.someipctl_recordings.specs.audit.AuditText.{Looked, fell_line, report_line, report_lines, time_of}
-use Rattle.someipctl_recordings.specs.audit.SeenIn.{AskedAudit, AuditsSome, StopsAt, Tells, TellsSome, audit_at, datagrams_from, looked_more, looked_of, none_looked, seen_from, seen_in, seen_next}
-use Rattle.someipctl_recordings.specs.audit.Steps.{line_at}
+use Rattle.someipctl_recordings.specs.declared.audit.subject.Subject.{Subject}
+use Rattle.someipctl_recordings.specs.audit.AskedAudits.{AskedAudit}
+use Rattle.someipctl_recordings.specs.audit.AuditText.{Looked, due_line, fell_line, finding_line, found_line, is_due_told, is_found_told, is_report_told, line_if, origin_of_due, plain_line, report_line, report_lines, time_at, time_of, told_of}
+use Rattle.someipctl_recordings.specs.audit.Subjects.{ChoosesNone, is_told, subject, subject_of_due}
+use Rattle.someipctl_recordings.specs.audit.SeenIn.{AuditsSome, StopsAt, Tells, TellsSome, audit_at, looked_more, looked_of, none_looked, seen_from, seen_in, seen_next}
+use Rattle.someipctl_recordings.specs.audit.Steps.{fell_told, is_told_at, line_at}
+use Rattle.someipctl_recordings.proofs.about_audit.StepLemmas.{fell_told_at, told_more}
 
 -- ---- the datagrams
 
-pub datagrams-append : (c : ChosenValue) (s : IntakeValue) (items others : List Item)
-    → datagrams_from c s (items ++ others) ≡ datagrams_from c s items ++ datagrams_from c (after_packets c s items) others
-datagrams-append c s items others =
-    ap (map (λ (a : ArrivalValue). a.datagram)) (arrivals-append c s items others)
-    ∙ map-append (λ (a : ArrivalValue). a.datagram) (arrivals c s items) (arrivals c (after_packets c s items) others)
-
 -- the latest moment of datagrams
-abbrev pub latest : ℕ → List DatagramValue → ℕ
+abbrev pub latest : ℕ → List ArrivalValue → ℕ
 latest now [] = now
-latest now (d ∷ ds) = latest (moment_of now d.time) ds
+latest now (d ∷ ds) = latest (moment_of now d.datagram.time) ds
 
-pub latest-append : (now : ℕ) (ds : List DatagramValue) (d : DatagramValue) → latest now (ds ++ d ∷ []) ≡ moment_of (latest now ds) d.time
+pub latest-append : (now : ℕ) (ds : List ArrivalValue) (d : ArrivalValue) → latest now (ds ++ d ∷ []) ≡ moment_of (latest now ds) d.datagram.time
 latest-append now [] d = refl
-latest-append now (one ∷ ds) d = latest-append (moment_of now one.time) ds d
+latest-append now (one ∷ ds) d = latest-append (moment_of now one.datagram.time) ds d
 
 one_on : (k n : ℕ) → (k + 1) + n ≡ k + suc n
 one_on k n = omega arith
 
-seen-append : (k now : ℕ) (ds others : List DatagramValue) → seen_from k now (ds ++ others) ≡ seen_from k now ds ++ seen_from (k + length ds) (latest now ds) others
+seen-append : (k now : ℕ) (ds others : List ArrivalValue) → seen_from k now (ds ++ others) ≡ seen_from k now ds ++ seen_from (k + length ds) (latest now ds) others
 seen-append k now [] others = ap (λ n. seen_from n now others) (sym (add-zero k))
 seen-append k now (d ∷ ds) others =
     ap (λ (l : List Seen). seen_next k now d ∷ l)
-    (seen-append (k + 1) (moment_of now d.time) ds others
-    ∙ ap (λ n. seen_from (k + 1) (moment_of now d.time) ds ++ seen_from n (latest (moment_of now d.time) ds) others) (one_on k (length ds)))
+    (seen-append (k + 1) (moment_of now d.datagram.time) ds others
+    ∙ ap (λ n. seen_from (k + 1) (moment_of now d.datagram.time) ds ++ seen_from n (latest (moment_of now d.datagram.time) ds) others) (one_on k (length ds)))
 
 zero_on : (n : ℕ) → 0 + n ≡ n
 zero_on n = omega arith
 
 -- the next one, and those after it
-pub seen_more : (gone : Gone) (ds others : List DatagramValue) → gone.datagrams ≡ length ds → gone.now ≡ latest 0 ds
+pub seen_more : (gone : Gone) (ds others : List ArrivalValue) → gone.datagrams ≡ length ds → gone.now ≡ latest 0 ds
     → seen_in (ds ++ others) ≡ seen_in ds ++ seen_from gone.datagrams gone.now others
 seen_more gone ds others number moment =
     seen-append 0 0 ds others ∙ ap (λ n. seen_in ds ++ seen_from n (latest 0 ds) others) (zero_on (length ds) ∙ sym number)
@@ -59,45 +56,106 @@ seen_more gone ds others number moment =
 
 -- ---- their times
 
-at_end : (ds : List DatagramValue) (d : DatagramValue) (others : List DatagramValue) → slice_get (ds ++ d ∷ others) (length ds) ≡ Some d
+at_end : (ds : List ArrivalValue) (d : ArrivalValue) (others : List ArrivalValue) → slice_get (ds ++ d ∷ others) (length ds) ≡ Some d
 at_end [] d others = refl
 at_end (one ∷ ds) d others = at_end ds d others
 
 less_one : (n : ℕ) → (n + 1) - 1 ≡ n
 less_one n = omega arith
 
-pub time_now : (k : ℕ) (ds : List DatagramValue) (d : DatagramValue) (others : List DatagramValue) → k ≡ length ds → time_of (ds ++ d ∷ others) (k + 1) ≡ d.time
+pub time_now : (k : ℕ) (ds : List ArrivalValue) (d : ArrivalValue) (others : List ArrivalValue) → k ≡ length ds → time_of (ds ++ d ∷ others) (k + 1) ≡ d.datagram.time
 time_now k ds d others is =
-    ap (λ n. option_and_then (λ (d : DatagramValue). d.time) (slice_get (ds ++ d ∷ others) n)) (less_one k ∙ is)
-    ∙ ap (option_and_then (λ (d : DatagramValue). d.time)) (at_end ds d others)
+    ap (λ n. option_and_then (λ (d : ArrivalValue). d.datagram.time) (slice_get (ds ++ d ∷ others) n)) (less_one k ∙ is)
+    ∙ ap (option_and_then (λ (d : ArrivalValue). d.datagram.time)) (at_end ds d others)
 
-fell_same : (all : List DatagramValue) (time : Option Time) (told : List FellDue) → flat_map (line_at time) (map fell told) ≡ report_lines all (map fell told)
-fell_same all time [] = refl
-fell_same all time (one ∷ told) = ap (λ (t : List ℕ). fell_line one ++ t) (fell_same all time told)
+fell_same : (asked : AskedAudit) (all : List ArrivalValue) (time : Option Time) (told : List FellDue) → flat_map (line_at asked time) (map fell told) ≡ report_lines asked all (map fell told)
+fell_same asked all time [] = refl
+fell_same asked all time (one ∷ told) = ap (λ (t : List ℕ). fell_line asked one ++ t) (fell_same asked all time told)
 
-found_same : (all : List DatagramValue) (time : Option Time) (origin : Origin) (findings : List Finding) → time_of all origin.datagram ≡ time
-    → flat_map (line_at time) (map (found origin) findings) ≡ report_lines all (map (found origin) findings)
-found_same all time origin [] is = refl
-found_same all time origin (one ∷ findings) is =
-    ap (λ (t : List ℕ). line_at time (found origin one) ++ t) (found_same all time origin findings is)
-    ∙ ap (λ t. line_at t (found origin one) ++ report_lines all (map (found origin) findings)) (sym is)
+found_same : (asked : AskedAudit) (all : List ArrivalValue) (time : Option Time) (origin : Origin) (findings : List Finding) → time_of all origin.numbers.datagram ≡ time
+    → flat_map (line_at asked time) (map (found origin) findings) ≡ report_lines asked all (map (found origin) findings)
+found_same asked all time origin [] is = refl
+found_same asked all time origin (one ∷ findings) is =
+    ap (λ (t : List ℕ). line_at asked time (found origin one) ++ t) (found_same asked all time origin findings is)
+    ∙ ap (λ t. line_at asked t (found origin one) ++ report_lines asked all (map (found origin) findings)) (sym is)
 
-pub heard_same : (all : List DatagramValue) (time : Option Time) (seen : Seen) (state after : AuditState) (told : List Report) → time_of all seen.origin.datagram ≡ time → Hears state seen told after
-    → flat_map (line_at time) told ≡ report_lines all told
-heard_same all time seen state after told is hears =
+pub heard_same : (asked : AskedAudit) (all : List ArrivalValue) (time : Option Time) (seen : Seen) (state after : AuditState) (told : List Report) → time_of all seen.origin.numbers.datagram ≡ time
+    → Hears state seen told after → flat_map (line_at asked time) told ≡ report_lines asked all told
+heard_same asked all time seen state after told is hears =
     let fallen = map fell hears.told in
     let shown = map (found seen.origin) (seen_shown seen hears.between) in
-    ap (flat_map (line_at time)) hears.reported
-    ∙ flat_map-append (line_at time) fallen shown
-    ∙ ap (λ (t : List ℕ). t ++ flat_map (line_at time) shown) (fell_same all time hears.told)
-    ∙ ap (λ (t : List ℕ). report_lines all fallen ++ t) (found_same all time seen.origin (seen_shown seen hears.between) is)
-    ∙ sym (flat_map-append (report_line all) fallen shown)
-    ∙ ap (report_lines all) (sym hears.reported)
+    ap (flat_map (line_at asked time)) hears.reported
+    ∙ flat_map-append (line_at asked time) fallen shown
+    ∙ ap (λ (t : List ℕ). t ++ flat_map (line_at asked time) shown) (fell_same asked all time hears.told)
+    ∙ ap (λ (t : List ℕ). report_lines asked all fallen ++ t) (found_same asked all time seen.origin (seen_shown seen hears.between) is)
+    ∙ sym (flat_map-append (report_line asked all) fallen shown)
+    ∙ ap (report_lines asked all) (sym hears.reported)
 
-pub some_same : (all : List DatagramValue) (time : Option Time) (seen : Seen) (state : AuditState) (told : List Report) → time_of all seen.origin.datagram ≡ time
-    → StopsAt seen.now state told ⊎ ((after : AuditState) × Hears state seen told after) → flat_map (line_at time) told ≡ report_lines all told
-some_same all time seen state told is (inl s) = ap (flat_map (line_at time)) s.2 ∙ fell_same all time s.0 ∙ ap (report_lines all) (sym s.2)
-some_same all time seen state told is (inr s) = heard_same all time seen state s.0 told is s.1
+pub some_same : (asked : AskedAudit) (all : List ArrivalValue) (time : Option Time) (seen : Seen) (state : AuditState) (told : List Report) → time_of all seen.origin.numbers.datagram ≡ time
+    → StopsAt seen.now state told ⊎ ((after : AuditState) × Hears state seen told after) → flat_map (line_at asked time) told ≡ report_lines asked all told
+some_same asked all time seen state told is (inl s) = ap (flat_map (line_at asked time)) s.2 ∙ fell_same asked all time s.0 ∙ ap (report_lines asked all) (sym s.2)
+some_same asked all time seen state told is (inr s) = heard_same asked all time seen state s.0 told is s.1
+
+-- ---- those that are told
+
+pub told_on : (asked : AskedAudit) (all : List ArrivalValue) (reports more : List Report) → told_of asked all (reports ++ more) ≡ told_of asked all reports ++ told_of asked all more
+told_on asked all reports more = filter-append (is_report_told asked all) reports more
+
+pub fell_told_in : (asked : AskedAudit) (all : List ArrivalValue) (told : List FellDue) → fell_told asked told ≡ told_of asked all (map fell told)
+fell_told_in asked all [] = refl
+fell_told_in asked all (one ∷ told) = ap (λ (l : List Report). if is_due_told asked one then fell one ∷ l else l) (fell_told_in asked all told)
+
+found_told_in : (asked : AskedAudit) (all : List ArrivalValue) (time : Option Time) (origin : Origin) (findings : List Finding) → time_of all origin.numbers.datagram ≡ time
+    → filter (is_told_at asked time) (map (found origin) findings) ≡ told_of asked all (map (found origin) findings)
+found_told_in asked all time origin [] is = refl
+found_told_in asked all time origin (one ∷ findings) is =
+    ap (λ (l : List Report). if is_found_told asked time origin one then found origin one ∷ l else l) (found_told_in asked all time origin findings is)
+    ∙ ap (λ t. if is_found_told asked t origin one then found origin one ∷ told_of asked all (map (found origin) findings) else told_of asked all (map (found origin) findings)) (sym is)
+
+-- those of a datagram
+pub heard_told : (asked : AskedAudit) (all : List ArrivalValue) (time : Option Time) (seen : Seen) (state after : AuditState) (told : List Report) → time_of all seen.origin.numbers.datagram ≡ time
+    → Hears state seen told after → filter (is_told_at asked time) told ≡ told_of asked all told
+heard_told asked all time seen state after told is hears =
+    let fallen = map fell hears.told in
+    let shown = map (found seen.origin) (seen_shown seen hears.between) in
+    ap (filter (is_told_at asked time)) hears.reported
+    ∙ told_more asked time fallen shown
+    ∙ ap (λ (l : List Report). l ++ filter (is_told_at asked time) shown) (sym (fell_told_at asked time hears.told) ∙ fell_told_in asked all hears.told)
+    ∙ ap (λ (l : List Report). told_of asked all fallen ++ l) (found_told_in asked all time seen.origin (seen_shown seen hears.between) is)
+    ∙ sym (told_on asked all fallen shown)
+    ∙ ap (told_of asked all) (sym hears.reported)
+
+if_more : (b : Bool) (line : List ℕ) (report : Report) (told : List Report) (f : Report → List ℕ) → f report ≡ line
+    → line_if b line ++ flat_map f told ≡ flat_map f (if b then report ∷ told else told)
+if_more true line report told f is = ap (λ (t : List ℕ). t ++ flat_map f told) (sym is)
+if_more false line report told f is = refl
+
+-- the lines are those of what is told
+pub lines_are_of_told : (asked : AskedAudit) (all : List ArrivalValue) (reports : List Report) → report_lines asked all reports ≡ flat_map (plain_line asked all) (told_of asked all reports)
+lines_are_of_told asked all [] = refl
+lines_are_of_told asked all (fell told ∷ reports) =
+    ap (λ (t : List ℕ). fell_line asked told ++ t) (lines_are_of_told asked all reports)
+    ∙ if_more (is_due_told asked told) (due_line asked.frames told) (fell told) (told_of asked all reports) (plain_line asked all) refl
+lines_are_of_told asked all (found origin finding ∷ reports) =
+    let time = time_of all origin.numbers.datagram in
+    ap (λ (t : List ℕ). found_line asked time origin finding ++ t) (lines_are_of_told asked all reports)
+    ∙ if_more (is_found_told asked time origin finding) (finding_line asked.frames time origin finding) (found origin finding) (told_of asked all reports) (plain_line asked all) refl
+
+-- where nothing is chosen, each finding is told
+always : (w : WantedValue) (time : Option Time) (origin : Origin) (subject : Option Subject) → ChoosesNone w → is_told w time origin subject ≡ true
+always w time origin None none = refl
+always w time origin (Some s) none = rw (none.no_services, none.no_client, none.no_addresses, none.no_from, none.no_until) refl
+
+pub all_told : (asked : AskedAudit) (all : List ArrivalValue) (reports : List Report) → ChoosesNone asked.wanted → told_of asked all reports ≡ reports
+all_told asked all [] none = refl
+all_told asked all (fell told ∷ reports) none =
+    ap (λ b. if b then fell told ∷ told_of asked all reports else told_of asked all reports)
+    (always asked.wanted (Some (time_at (deadline told))) (origin_of_due told) (Some (subject_of_due told)) none)
+    ∙ ap (λ (l : List Report). fell told ∷ l) (all_told asked all reports none)
+all_told asked all (found origin finding ∷ reports) none =
+    ap (λ b. if b then found origin finding ∷ told_of asked all reports else told_of asked all reports)
+    (always asked.wanted (time_of all origin.numbers.datagram) origin (subject finding) none)
+    ∙ ap (λ (l : List Report). found origin finding ∷ l) (all_told asked all reports none)
 
 -- ---- how many were looked at
 

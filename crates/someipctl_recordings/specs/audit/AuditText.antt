@@ -1,10 +1,10 @@
 -- The text of an audit: a line for each finding, and the summary.
-use Rattle.std.specs.Prelude.{◌≡◌, ℕ, ◌*◌, ◌/◌, ◌%◌, ◌==◌, ◌-◌, if◌then◌else◌, List, [], ◌∷◌, ◌++◌, length, codes, decimal, Option, Some, Result, Ok, Err}
+use Rattle.std.specs.Prelude.{◌≡◌, ℕ, ◌*◌, ◌/◌, ◌%◌, ◌==◌, ◌-◌, Bool, true, false, if◌then◌else◌, List, [], ◌∷◌, ◌++◌, filter, length, codes, decimal, Option, Some, Result, Ok, Err}
 use Rattle.std.specs.List.{count_by, flat_map, slice_get}
 use Rattle.std.specs.Option.{option_and_then}
 use Rattle.std.specs.Net.Text.{socket_v4_text}
 use Rattle.recording.specs.declared.Time.{Time}
-use Rattle.recording.specs.Packets.{DatagramValue}
+use Rattle.recording_packets.specs.Intake.{ArrivalValue}
 use Rattle.someip_tables.specs.declared.hashed.Origin.{Origin}
 use Rattle.someip_audit.specs.declared.Finding.{Finding}
 use Rattle.someip_audit.specs.declared.FellDue.{FellDue}
@@ -14,19 +14,29 @@ use Rattle.someip_audit.specs.Audits.{Report, fell, found}
 use Rattle.someipctl_io.specs.declared.CannotWrite.{CannotWrite}
 use Rattle.someipctl_io.specs.Sending.{Sends, Stops}
 use Rattle.someip_texts.specs.Words.{spaced}
-use Rattle.someipctl_recordings.specs.RecordedText.{time_text}
+use Rattle.someipctl_recordings.specs.RecordedText.{frame_text, text_if, time_text}
 use Rattle.someipctl_recordings.specs.declared.audit.kind.Kind.{Kind}
+use Rattle.someipctl_recordings.specs.audit.AskedAudits.{AskedAudit}
 use Rattle.someipctl_recordings.specs.audit.Kinds.{all_kinds, kind_number, kind_words}
 use Rattle.someipctl_recordings.specs.audit.Said.{Said, said, said_of_due, said_text}
+use Rattle.someipctl_recordings.specs.audit.Subjects.{is_told, subject, subject_of_due}
 
 -- ---- a line
 
--- what stands before what is said: a time, the number of a datagram, where it came from and where it went to
-abbrev pub head_text : Option Time → Origin → List ℕ
-head_text time origin = time_text time ++ spaced (decimal origin.datagram ∷ socket_v4_text origin.from ∷ socket_v4_text origin.to ∷ [])
+-- what stands before what is said: the number of the packet, if it is asked for, a time, the number of the datagram, where it came
+-- from and where it went to
+abbrev pub head_text : Bool → Option Time → Origin → List ℕ
+head_text frames time origin =
+    text_if frames (frame_text origin.numbers.frame)
+    ++ (time_text time ++ spaced (decimal origin.numbers.datagram ∷ socket_v4_text origin.from ∷ socket_v4_text origin.to ∷ []))
 
-abbrev pub line_of : Option Time → Origin → Said → List ℕ
-line_of time origin s = head_text time origin ++ said_text s
+abbrev pub line_of : Bool → Option Time → Origin → Said → List ℕ
+line_of frames time origin s = head_text frames time origin ++ said_text s
+
+-- a line where it is told
+abbrev pub line_if : Bool → List ℕ → List ℕ
+line_if true line = line
+line_if false line = []
 
 -- a moment, in milliseconds, as a time
 abbrev pub time_at : ℕ → Time
@@ -34,30 +44,60 @@ time_at millis = record { seconds = millis / 1000; nanoseconds = millis % 1000 *
 
 -- the datagram of what fell due: with the request, the first segment, the newest Offer or the Subscribe
 abbrev pub origin_of_due : FellDue → Origin
-origin_of_due (due.Unanswered told) = record { datagram = told.k; from = told.call.from; to = told.call.to }
-origin_of_due (due.Missing told) = record { datagram = told.k; from = told.key.source; to = told.key.destination }
+origin_of_due (due.Unanswered told) = record { numbers = told.numbers; from = told.call.from; to = told.call.to }
+origin_of_due (due.Missing told) = record { numbers = told.numbers; from = told.key.source; to = told.key.destination }
 origin_of_due (due.Expired told) = told.offer.origin
 origin_of_due (due.SubscribeUnanswered told) = told.origin
 
 -- the line of what fell due, at its deadline
-abbrev pub fell_line : FellDue → List ℕ
-fell_line told = line_of (Some (time_at (deadline told))) (origin_of_due told) (said_of_due told)
+abbrev pub due_line : Bool → FellDue → List ℕ
+due_line frames told = line_of frames (Some (time_at (deadline told))) (origin_of_due told) (said_of_due told)
 
 -- the line of a finding of a datagram with this time
-abbrev pub found_line : Option Time → Origin → Finding → List ℕ
-found_line time origin finding = line_of time origin (said finding)
+abbrev pub finding_line : Bool → Option Time → Origin → Finding → List ℕ
+finding_line frames time origin finding = line_of frames time origin (said finding)
+
+-- what fell due is told
+abbrev pub is_due_told : AskedAudit → FellDue → Bool
+is_due_told asked told = is_told asked.wanted (Some (time_at (deadline told))) (origin_of_due told) (Some (subject_of_due told))
+
+-- its line, if it is
+abbrev pub fell_line : AskedAudit → FellDue → List ℕ
+fell_line asked told = line_if (is_due_told asked told) (due_line asked.frames told)
+
+-- a finding of a datagram with this time is told
+abbrev pub is_found_told : AskedAudit → Option Time → Origin → Finding → Bool
+is_found_told asked time origin finding = is_told asked.wanted time origin (subject finding)
+
+-- its line, if it is
+abbrev pub found_line : AskedAudit → Option Time → Origin → Finding → List ℕ
+found_line asked time origin finding = line_if (is_found_told asked time origin finding) (finding_line asked.frames time origin finding)
 
 -- the time of the datagram with this number, counted from 1
-abbrev pub time_of : List DatagramValue → ℕ → Option Time
-time_of datagrams k = option_and_then (λ (d : DatagramValue). d.time) (slice_get datagrams (k - 1))
+abbrev pub time_of : List ArrivalValue → ℕ → Option Time
+time_of arrivals k = option_and_then (λ (a : ArrivalValue). a.datagram.time) (slice_get arrivals (k - 1))
 
--- the line of a report of these datagrams
-abbrev pub report_line : List DatagramValue → Report → List ℕ
-report_line datagrams (fell told) = fell_line told
-report_line datagrams (found origin finding) = found_line (time_of datagrams origin.datagram) origin finding
+-- a report of these datagrams is told
+abbrev pub is_report_told : AskedAudit → List ArrivalValue → Report → Bool
+is_report_told asked arrivals (fell told) = is_due_told asked told
+is_report_told asked arrivals (found origin finding) = is_found_told asked (time_of arrivals origin.numbers.datagram) origin finding
 
-abbrev pub report_lines : List DatagramValue → List Report → List ℕ
-report_lines datagrams reports = flat_map (report_line datagrams) reports
+-- those that are, in order
+abbrev pub told_of : AskedAudit → List ArrivalValue → List Report → List Report
+told_of asked arrivals reports = filter (is_report_told asked arrivals) reports
+
+-- the line of a report, if it is told
+abbrev pub report_line : AskedAudit → List ArrivalValue → Report → List ℕ
+report_line asked arrivals (fell told) = fell_line asked told
+report_line asked arrivals (found origin finding) = found_line asked (time_of arrivals origin.numbers.datagram) origin finding
+
+-- the line of a report, told or not
+abbrev pub plain_line : AskedAudit → List ArrivalValue → Report → List ℕ
+plain_line asked arrivals (fell told) = due_line asked.frames told
+plain_line asked arrivals (found origin finding) = finding_line asked.frames (time_of arrivals origin.numbers.datagram) origin finding
+
+abbrev pub report_lines : AskedAudit → List ArrivalValue → List Report → List ℕ
+report_lines asked arrivals reports = flat_map (report_line asked arrivals) reports
 
 -- ---- the summary
 
@@ -89,9 +129,9 @@ summary_text looked reports = audited_line looked (length reports) ++ flat_map (
 
 -- ---- the whole
 
--- the text of these reports of these datagrams
-abbrev pub audit_text : List DatagramValue → List Report → Looked → List ℕ
-audit_text datagrams reports looked = report_lines datagrams reports ++ summary_text looked reports
+-- the text of these reports of these datagrams: the lines of those that are told, and their summary
+abbrev pub audit_text : AskedAudit → List ArrivalValue → List Report → Looked → List ℕ
+audit_text asked arrivals reports looked = report_lines asked arrivals reports ++ summary_text looked (told_of asked arrivals reports)
 
 -- ---- what becomes of a line
 

@@ -1,10 +1,9 @@
 -- What is printed of a recording, record by record.
-use Rattle.std.specs.Prelude.{◌≡◌, ◌⊎◌, ◌+◌, ℕ, List, [], ◌++◌, map, Option, None, Some}
+use Rattle.std.specs.Prelude.{◌≡◌, ◌⊎◌, ◌+◌, ℕ, List, [], ◌++◌, false, Option, None, Some}
 use Rattle.std.specs.List.{flat_map}
-use Rattle.recording.specs.Packets.{DatagramValue}
 use Rattle.recording_packets.specs.Intake.{ArrivalValue}
 use Rattle.someip_audit.specs.declared.FellDue.{FellDue}
-use Rattle.someip_audit.specs.Audits.{AuditState, Drains, Report, fell}
+use Rattle.someip_audit.specs.Audits.{AuditState, Drains, Report}
 use Rattle.someipctl_io.specs.Outcomes.{fault_outcome}
 use Rattle.someipctl_io.specs.Sending.{Sends, Stops}
 use Rattle.someipctl_recordings.specs.declared.recordings.ShownRecording.{ShownRecording}
@@ -13,11 +12,12 @@ use Rattle.someipctl_recordings.specs.Files.{WereLeft, fault_in}
 use Rattle.someipctl_recordings.specs.declared.audit.audits.Gone.{Gone}
 use Rattle.someipctl_recordings.specs.declared.audit.auditing.SeenDatagram.{SeenDatagram}
 use Rattle.someipctl_recordings.specs.declared.audit.tally.Tally.{Tally}
+use Rattle.someipctl_recordings.specs.audit.AskedAudits.{AskedAudit}
 use Rattle.someipctl_recordings.specs.audit.AuditResult.{has_findings, left_out_in}
-use Rattle.someipctl_recordings.specs.audit.AuditText.{Looked, audit_text, fell_line, summary_text}
+use Rattle.someipctl_recordings.specs.audit.AuditText.{Looked, audit_text, fell_line, summary_text, told_of}
 use Rattle.someipctl_recordings.specs.audit.Scenes.{view_seen}
-use Rattle.someipctl_recordings.specs.audit.SeenIn.{AskedAudit, Tells, audit_at, datagrams_in, looked_of, seen_in, seen_next}
-use Rattle.someipctl_recordings.specs.audit.Steps.{PutsDue, PutsSeen, StopsDue, StopsSeen}
+use Rattle.someipctl_recordings.specs.audit.SeenIn.{Tells, audit_at, arrivals_in, looked_of, seen_in, seen_next}
+use Rattle.someipctl_recordings.specs.audit.Steps.{PutsDue, PutsSeen, StopsDue, StopsSeen, fell_told}
 
 -- ---- the next datagram
 
@@ -25,23 +25,23 @@ use Rattle.someipctl_recordings.specs.audit.Steps.{PutsDue, PutsSeen, StopsDue, 
 pub record PutsNext (asked : AskedAudit) (s : SeenDatagram) (before after : Option AuditState) (tally later : Tally) (a : Option (List ℕ)) (held : List ℕ) (b : Option (List ℕ)) (waits : List ℕ) : Type 0 where
   pub state : AuditState
   pub is : after ≡ Some state
-  pub puts : PutsSeen s.time (view_seen s) (audit_at asked before (view_seen s)) state tally later a held b waits
+  pub puts : PutsSeen asked s.time (view_seen s) (audit_at asked before (view_seen s)) state tally later a held b waits
 
 -- some of it was
 abbrev pub StopsNext : AskedAudit → SeenDatagram → Option AuditState → Option (List ℕ) → List ℕ → Option (List ℕ) → Type 0
-StopsNext asked s before a held b = StopsSeen s.time (view_seen s) (audit_at asked before (view_seen s)) a held b
+StopsNext asked s before a held b = StopsSeen asked s.time (view_seen s) (audit_at asked before (view_seen s)) a held b
 
 -- the same of a datagram of the recording, of which one more came then
-pub record PutsDatagram (asked : AskedAudit) (d : DatagramValue) (before after : Option AuditState) (gone later : Gone) (a : Option (List ℕ)) (held : List ℕ) (b : Option (List ℕ)) (waits : List ℕ) : Type 0 where
+pub record PutsDatagram (asked : AskedAudit) (d : ArrivalValue) (before after : Option AuditState) (gone later : Gone) (a : Option (List ℕ)) (held : List ℕ) (b : Option (List ℕ)) (waits : List ℕ) : Type 0 where
   pub state : AuditState
   pub is : after ≡ Some state
-  pub puts : PutsSeen d.time (seen_next gone.datagrams gone.now d) (audit_at asked before (seen_next gone.datagrams gone.now d)) state gone.tally later.tally a held b waits
+  pub puts : PutsSeen asked d.datagram.time (seen_next gone.datagrams gone.now d) (audit_at asked before (seen_next gone.datagrams gone.now d)) state gone.tally later.tally a held b waits
   pub number : later.datagrams ≡ gone.datagrams + 1
-  pub moment : later.now ≡ moment_of gone.now d.time
+  pub moment : later.now ≡ moment_of gone.now d.datagram.time
 
-abbrev pub StopsDatagram : AskedAudit → DatagramValue → Option AuditState → Gone → Option (List ℕ) → List ℕ → Option (List ℕ) → Type 0
+abbrev pub StopsDatagram : AskedAudit → ArrivalValue → Option AuditState → Gone → Option (List ℕ) → List ℕ → Option (List ℕ) → Type 0
 StopsDatagram asked d before gone a held b =
-    StopsSeen d.time (seen_next gone.datagrams gone.now d) (audit_at asked before (seen_next gone.datagrams gone.now d)) a held b
+    StopsSeen asked d.datagram.time (seen_next gone.datagrams gone.now d) (audit_at asked before (seen_next gone.datagrams gone.now d)) a held b
 
 -- nothing was printed
 abbrev pub StopsHere : Option (List ℕ) → List ℕ → Option (List ℕ) → Type 0
@@ -51,23 +51,23 @@ StopsHere a held b = Stops a held b []
 
 -- of one that gives no datagram nothing is told
 abbrev pub PutsRecord : AskedAudit → Option ArrivalValue → Option AuditState → Option AuditState → Gone → Gone → Option (List ℕ) → List ℕ → Option (List ℕ) → List ℕ → Type 0
-PutsRecord asked (Some arrival) before after gone later a held b waits = PutsDatagram asked arrival.datagram before after gone later a held b waits
+PutsRecord asked (Some arrival) before after gone later a held b waits = PutsDatagram asked arrival before after gone later a held b waits
 PutsRecord asked None before after gone later a held b waits = (after ≡ before) × (later ≡ gone) × Sends a held b waits []
 
 abbrev pub StopsRecord : AskedAudit → Option ArrivalValue → Option AuditState → Gone → Option (List ℕ) → List ℕ → Option (List ℕ) → Type 0
-StopsRecord asked (Some arrival) before gone a held b = StopsDatagram asked arrival.datagram before gone a held b
+StopsRecord asked (Some arrival) before gone a held b = StopsDatagram asked arrival before gone a held b
 StopsRecord asked None before gone a held b = StopsHere a held b
 
 -- ---- the end
 
 -- everything that fell due by the last moment was printed and counted, if an audit began
-abbrev pub PutsLast : ℕ → Option AuditState → Tally → Tally → Option (List ℕ) → List ℕ → Option (List ℕ) → List ℕ → Type 0
-PutsLast now None tally later a held b waits = (later ≡ tally) × Sends a held b waits []
-PutsLast now (Some state) tally later a held b waits = (after : AuditState) × PutsDue now state after tally later a held b waits
+abbrev pub PutsLast : AskedAudit → ℕ → Option AuditState → Tally → Tally → Option (List ℕ) → List ℕ → Option (List ℕ) → List ℕ → Type 0
+PutsLast asked now None tally later a held b waits = (later ≡ tally) × Sends a held b waits []
+PutsLast asked now (Some state) tally later a held b waits = (after : AuditState) × PutsDue asked now state after tally later a held b waits
 
-abbrev pub StopsLast : ℕ → Option AuditState → Option (List ℕ) → List ℕ → Option (List ℕ) → Type 0
-StopsLast now None a held b = ⊥
-StopsLast now (Some state) a held b = StopsDue now state a held b
+abbrev pub StopsLast : AskedAudit → ℕ → Option AuditState → Option (List ℕ) → List ℕ → Option (List ℕ) → Type 0
+StopsLast asked now None a held b = ⊥
+StopsLast asked now (Some state) a held b = StopsDue asked now state a held b
 
 -- this fell due by the last moment, if an audit began
 abbrev pub EndsWith : ℕ → Option AuditState → List FellDue → Type 0
@@ -75,20 +75,21 @@ EndsWith now None told = told ≡ []
 EndsWith now (Some state) told = (after : AuditState) × Drains now state told after
 
 -- what fell due by the last moment was printed, and the summary, where these reports were told before
-pub record PutsEnd (gone : Gone) (audit : Option AuditState) (reports : List Report) (looked : Looked) (a : Option (List ℕ)) (held : List ℕ) (b : Option (List ℕ)) (waits : List ℕ) (shown : ShownRecording) : Type 0 where
+pub record PutsEnd (asked : AskedAudit) (gone : Gone) (audit : Option AuditState) (reports : List Report) (looked : Looked) (a : Option (List ℕ)) (held : List ℕ) (b : Option (List ℕ)) (waits : List ℕ) (shown : ShownRecording) : Type 0 where
   pub told : List FellDue
   pub ends : EndsWith gone.now audit told
-  pub sends : Sends a held b waits (flat_map fell_line told ++ summary_text looked (reports ++ map fell told))
-  pub outcome : shown.outcome ≡ fault_outcome (has_findings (reports ++ map fell told))
+  pub sends : Sends a held b waits (flat_map (fell_line asked) told ++ summary_text looked (reports ++ fell_told asked told))
+  pub outcome : shown.outcome ≡ fault_outcome (has_findings (reports ++ fell_told asked told))
+  pub full : shown.is_full ≡ false
 
 -- some of it was
-pub record StopsSummary (gone : Gone) (audit : Option AuditState) (reports : List Report) (looked : Looked) (a : Option (List ℕ)) (held : List ℕ) (b : Option (List ℕ)) : Type 0 where
+pub record StopsSummary (asked : AskedAudit) (gone : Gone) (audit : Option AuditState) (reports : List Report) (looked : Looked) (a : Option (List ℕ)) (held : List ℕ) (b : Option (List ℕ)) : Type 0 where
   pub told : List FellDue
   pub ends : EndsWith gone.now audit told
-  pub stops : Stops a held b (flat_map fell_line told ++ summary_text looked (reports ++ map fell told))
+  pub stops : Stops a held b (flat_map (fell_line asked) told ++ summary_text looked (reports ++ fell_told asked told))
 
-abbrev pub StopsEnd : Gone → Option AuditState → List Report → Looked → Option (List ℕ) → List ℕ → Option (List ℕ) → Type 0
-StopsEnd gone audit reports looked a held b = StopsLast gone.now audit a held b ⊎ StopsSummary gone audit reports looked a held b
+abbrev pub StopsEnd : AskedAudit → Gone → Option AuditState → List Report → Looked → Option (List ℕ) → List ℕ → Option (List ℕ) → Type 0
+StopsEnd asked gone audit reports looked a held b = StopsLast asked gone.now audit a held b ⊎ StopsSummary asked gone audit reports looked a held b
 
 -- ---- the whole
 
@@ -98,8 +99,9 @@ pub record PutsAudit (inputs : List (Option (List ℕ))) (asked : AskedAudit) (s
   pub left : WereLeft inputs files
   pub ends : shown.fault ≡ fault_in files
   pub reports : List Report
-  pub told : Tells asked 0 None (seen_in (datagrams_in asked.packets files)) reports
+  pub told : Tells asked 0 None (seen_in (arrivals_in asked.wanted.packets files)) reports
   pub sends : Sends before [] after waits
-      (audit_text (datagrams_in asked.packets files) reports (looked_of asked 0 None (seen_in (datagrams_in asked.packets files)) reports told))
-  pub tells : shown.outcome ≡ fault_outcome (has_findings reports)
+      (audit_text asked (arrivals_in asked.wanted.packets files) reports (looked_of asked 0 None (seen_in (arrivals_in asked.wanted.packets files)) reports told))
+  pub tells : shown.outcome ≡ fault_outcome (has_findings (told_of asked (arrivals_in asked.wanted.packets files) reports))
   pub counts : shown.left_out ≡ left_out_in asked files
+  pub full : shown.is_full ≡ false

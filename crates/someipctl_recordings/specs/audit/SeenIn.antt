@@ -1,55 +1,48 @@
 -- The datagrams of a recording, as an audit sees them, and what is told of them.
 use Rattle.std.specs.Prelude.{◌≡◌, ◌⊎◌, ⊤, ℕ, ◌+◌, List, [], ◌∷◌, ◌++◌, map, Option, None, Some}
-use Rattle.recording.specs.Packets.{DatagramValue}
-use Rattle.recording.specs.Records.{Item}
 use Rattle.recording_packets.specs.Chosen.{ChosenValue}
-use Rattle.recording_packets.specs.Intake.{ArrivalValue, IntakeValue, arrivals, nothing_taken}
+use Rattle.recording_packets.specs.Intake.{ArrivalValue, arrivals, nothing_taken}
 use Rattle.someipctl_recordings.specs.Files.{items_of_files}
-use Rattle.someip_audit.specs.declared.AuditRules.{AuditRules}
 use Rattle.someip_audit.specs.declared.FellDue.{FellDue}
 use Rattle.someip_audit.specs.Audits.{AuditState, Audits, Hears, IsNext, Report, Seen, audit_begun, fell, seen_messages}
 use Rattle.someip_audit.specs.FellDues.{after_due}
 use Rattle.someipctl_recordings.specs.Gathered.{socket_of}
 use Rattle.someipctl_recordings.specs.Moments.{moment_of}
+use Rattle.someipctl_recordings.specs.Wanted.{ports_of}
+use Rattle.someipctl_recordings.specs.audit.AskedAudits.{AskedAudit, learns}
 use Rattle.someipctl_recordings.specs.audit.AuditText.{Looked}
 
 -- ---- the datagrams of a recording
 
--- those that items give, in order, where these packets came before
-abbrev pub datagrams_from : ChosenValue → IntakeValue → List Item → List DatagramValue
-datagrams_from c s items = map (λ (a : ArrivalValue). a.datagram) (arrivals c s items)
+-- those of files, in order
+abbrev pub arrivals_in : ChosenValue → List (List ℕ) → List ArrivalValue
+arrivals_in c files = arrivals c (nothing_taken c) (items_of_files files)
 
--- those of files
-abbrev pub datagrams_in : ChosenValue → List (List ℕ) → List DatagramValue
-datagrams_in c files = datagrams_from c (nothing_taken c) (items_of_files files)
-
--- one of them as an audit sees it: its moment, its number, counted from 1, its endpoints, and its bytes. So many came before
--- it, the latest at this moment
-abbrev pub seen_next : ℕ → ℕ → DatagramValue → Seen
-seen_next count latest d = record {
-  now = moment_of latest d.time;
-  origin = record { datagram = count + 1; from = socket_of d.from; to = socket_of d.to };
-  bytes = d.payload;
+-- one of them as an audit sees it: its moment, its number and that of its packet, each counted from 1, its endpoints, and its
+-- bytes. So many came before it, the latest at this moment
+abbrev pub seen_next : ℕ → ℕ → ArrivalValue → Seen
+seen_next count latest a = record {
+  now = moment_of latest a.datagram.time;
+  origin = record {
+    numbers = record { datagram = count + 1; frame = a.frame };
+    from = socket_of a.datagram.from;
+    to = socket_of a.datagram.to;
+  };
+  bytes = a.datagram.payload;
 }
 
-abbrev pub seen_from : ℕ → ℕ → List DatagramValue → List Seen
+abbrev pub seen_from : ℕ → ℕ → List ArrivalValue → List Seen
 seen_from count latest [] = []
-seen_from count latest (d ∷ others) = seen_next count latest d ∷ seen_from (count + 1) (moment_of latest d.time) others
+seen_from count latest (a ∷ others) = seen_next count latest a ∷ seen_from (count + 1) (moment_of latest a.datagram.time) others
 
-abbrev pub seen_in : List DatagramValue → List Seen
-seen_in datagrams = seen_from 0 0 datagrams
+abbrev pub seen_in : List ArrivalValue → List Seen
+seen_in arrivals = seen_from 0 0 arrivals
 
 -- ---- what is told of them
 
--- what an audit goes by: its settings, the ports that are named, if they are, and which packets are looked at
-pub record AskedAudit : Type 0 where
-  pub rules : AuditRules
-  pub ports : Option (List ℕ)
-  pub packets : ChosenValue
-
 -- the audit at a datagram: it begins with the first
 abbrev pub audit_at : AskedAudit → Option AuditState → Seen → AuditState
-audit_at asked None seen = audit_begun asked.rules asked.ports seen.now
+audit_at asked None seen = audit_begun asked.rules (ports_of asked.wanted.ports) (learns asked.wanted) seen.now
 audit_at asked (Some state) seen = state
 
 -- what an audit tells of datagrams, and at last of what fell due by the last moment; where there was no datagram it tells nothing

@@ -9,16 +9,20 @@ use Rattle.someipctl_recordings.specs.audit.AuditText.{Looked, audited_line, cou
 
 -- one more finding of a kind
 abbrev pub tally_after : Kind → Tally → Tally
-tally_after kind t = record t { findings = t.findings + 1; kinds = slice_set t.kinds (kind_number kind) (slice_index t.kinds (kind_number kind) + 1) }
+tally_after kind t = record t { reports = t.reports + 1; findings = t.findings + 1; kinds = slice_set t.kinds (kind_number kind) (slice_index t.kinds (kind_number kind) + 1) }
+
+-- one more that is not told
+abbrev pub tally_passed : Tally → Tally
+tally_passed t = record t { reports = t.reports + 1 }
 
 -- one more datagram, if it is looked at, with so many messages
 abbrev pub tally_looked : Option ℕ → Tally → Tally
 tally_looked None t = t
 tally_looked (Some n) t = record t { datagrams = t.datagrams + 1; messages = t.messages + n }
 
--- the greatest number after that: of the findings, and of those of the kind; of the datagrams, and of their messages
+-- the greatest number after that: of all findings, of those that are told, and of those of the kind; of the datagrams, and of their messages
 abbrev pub most_told : Kind → Tally → ℕ
-most_told kind t = max (t.findings + 1) (slice_index t.kinds (kind_number kind) + 1)
+most_told kind t = max (max (t.reports + 1) (t.findings + 1)) (slice_index t.kinds (kind_number kind) + 1)
 
 abbrev pub most_looked : Option ℕ → Tally → ℕ
 most_looked None t = 0

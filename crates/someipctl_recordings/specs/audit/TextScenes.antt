@@ -1,5 +1,6 @@
 -- What the laws of texts speak of as examples.
-use Rattle.std.specs.Prelude.{ℕ, [], ◌∷◌}
+use Rattle.std.specs.Prelude.{ℕ, [], ◌∷◌, None, Some, false}
+use Rattle.recording.specs.declared.Time.{Time}
 use Rattle.std.specs.declared.net.socket_addr.SocketAddrV4.{SocketAddrV4}
 use Rattle.someip_wire.specs.declared.Header.{Header}
 use Rattle.someip_wire.specs.declared.MessageType.TheVariants.{Request}
@@ -13,6 +14,9 @@ use Rattle.audit_sd.specs.declared.receivers.Delivery.{Delivery}
 use Rattle.audit_traffic.specs.declared.segments.Missing.{Missing}
 use Rattle.audit_sd.specs.declared.subscriptions.SubscriptionKey.{SubscriptionKey}
 use Rattle.audit_sd.specs.declared.subscriptions.Unanswered.{Unanswered as UnansweredSubscribe}
+use Rattle.someipctl_show.specs.declared.services.AskedService.{AskedService}
+use Rattle.someipctl_recordings.specs.Wanted.{WantedValue, all_wanted}
+use Rattle.someipctl_recordings.specs.audit.AskedAudits.{AskedAudit}
 
 -- an endpoint of node n
 abbrev pub socket : ℕ → ℕ → SocketAddrV4
@@ -20,7 +24,7 @@ socket n port = record { ip = record { octets = 192 ∷ 168 ∷ 0 ∷ n ∷ [] }
 
 -- a datagram, a message, an event, an offer and a subscription
 abbrev pub origin_1 : Origin
-origin_1 = record { datagram = 12; from = socket 1 40000; to = socket 2 30490 }
+origin_1 = record { numbers = record { datagram = 12; frame = 14 }; from = socket 1 40000; to = socket 2 30490 }
 
 abbrev pub header_1 : Header
 header_1 = record { service = 0x1234; method = 0x0421; client = 0x0101; session = 2; interface = 1; kind = Request; code = record { 0 = 0 } }
@@ -49,7 +53,7 @@ key_1 = record {
 abbrev pub unanswered_1 : UnansweredCall
 unanswered_1 = record {
   call = record { session = 2; client = 0x0101; method = 0x0421; service = 0x1234; from = socket 2 40001; to = socket 1 30509; interface = 1 };
-  k = 8;
+  numbers = record { datagram = 8; frame = 9 };
   since = 2500;
   until = 4500;
 }
@@ -67,7 +71,7 @@ missing_1 = record {
     kind = Request;
     code = record { 0 = 0 };
   };
-  k = 9;
+  numbers = record { datagram = 9; frame = 11 };
   until = 7000;
 }
 
@@ -76,3 +80,32 @@ expired_1 = record { at = 8003; key = offer_1; offer = record { endpoint = socke
 
 abbrev pub subscribe_1 : UnansweredSubscribe
 subscribe_1 = record { at = 9000; key = key_1; origin = origin_1 }
+
+-- ---- what is asked for
+
+-- a whole service, and a method of one
+abbrev pub whole_service : ℕ → AskedService
+whole_service service = record { service = service; method = None }
+
+abbrev pub method_of : ℕ → ℕ → AskedService
+method_of service method = record { service = service; method = Some method }
+
+-- an audit that tells the findings that are chosen so
+abbrev asks : WantedValue → AskedAudit
+asks wanted = record {
+  rules = record { limit = 65536; answer_ms = 2000; settle_ms = 10000; segments = record { slots = 16; limit = 1048576; timeout_ms = 5000 } };
+  wanted = wanted;
+  frames = false;
+}
+
+abbrev pub of_services : AskedService → AskedAudit
+of_services service = asks (record all_wanted { services = Some (service ∷ []) })
+
+abbrev pub of_client : ℕ → AskedAudit
+of_client client = asks (record all_wanted { client = Some client })
+
+abbrev pub of_address : ℕ → AskedAudit
+of_address address = asks (record all_wanted { addresses = Some (address ∷ []) })
+
+abbrev pub before : Time → AskedAudit
+before until = asks (record all_wanted { until = Some until })

@@ -1,5 +1,5 @@
 //! What an audit goes by.
-use recording_packets::ChosenPackets;
+use crate::wanted::Wanted;
 use someip_audit::AuditRules;
 
 /// What an audit goes by.
@@ -7,9 +7,11 @@ use someip_audit::AuditRules;
 pub struct AuditAsked<'a> {
     /// Its settings.
     pub rules: AuditRules,
-    /// The ports that are looked at beside that of Service Discovery. None looks at the endpoints that
-    /// Offers and Subscribes named so far.
-    pub ports: Option<&'a [u16]>,
-    /// Which packets are looked at.
-    pub packets: ChosenPackets<'a>,
+    /// Which packets are looked at, and the ports that are beside that of Service Discovery: where none are
+    /// named, or where that is asked for, also the endpoints that Offers and Subscribes named so far. The rest
+    /// chooses the findings that are told, and not what is looked at: those of the services, the client, the
+    /// addresses and the times that are named. That a book is full is always told.
+    pub wanted: Wanted<'a>,
+    /// Whether the number of a packet stands before each line, as in `#12`.
+    pub frames: bool,
 }

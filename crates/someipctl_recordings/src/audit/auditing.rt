@@ -1,17 +1,20 @@
 //! What is printed of one datagram, and of what falls due before it.
-ghost use Rattle.std.specs.Prelude.{◌≡◌, IfErr, OnErr, OnOk, map};
+ghost use Rattle.std.specs.Prelude.{◌≡◌, ◌∷◌, ◌+◌, ◌<◌, ◌^◌, [], IfErr, None, OnErr, OnOk, filter, map};
 ghost use Rattle.someipctl_io.specs.declared.Fault.TheVariants.{CannotRead};
 ghost use Rattle.std.specs.List.{flat_map};
 ghost use Rattle.someip_audit.specs.Audits.{found};
 ghost use Rattle.someipctl_io.specs.Sending.{Sends, Stops};
-ghost use Rattle.someipctl_recordings.specs.audit.AuditText.{found_line};
+ghost use Rattle.someipctl_recordings.specs.audit.AskedAudits.{view_asked};
+ghost use Rattle.someipctl_recordings.specs.audit.AuditText.{fell_line, found_line};
 ghost use Rattle.someipctl_recordings.specs.audit.Scenes.{view_seen};
 ghost use Rattle.someipctl_recordings.specs.audit.Steps.{CountsMore, PutsDue, PutsSeen, StopsDue, StopsSeen};
+ghost use Rattle.someipctl_recordings.specs.audit.Steps.{fell_told, is_told_at};
 
-use crate::audit::lines::{put_fell_due, put_found};
+use crate::audit::asked::AuditAsked;
+use crate::audit::lines::{is_due_told, is_found_told, put_fell_due, put_found};
 use crate::audit::tally::Tally;
 use recording::Time;
-use someip_audit::{Audit, Finding};
+use someip_audit::{Audit, FellDue, Finding};
 use someip_reassembly::Reassembly;
 use someip_tables::Moment;
 use someip_tables::hashed::Origin;
@@ -27,7 +30,7 @@ pub(crate) struct SeenDatagram<'d> {
     pub(crate) time: Option<Time>,
     /// Its moment.
     pub(crate) now: Moment,
-    /// Its number and its endpoints.
+    /// Its numbers and its endpoints.
     pub(crate) origin: Origin,
     /// Its bytes.
     pub(crate) bytes: &'d [u8],
@@ -39,34 +42,44 @@ pub(crate) fn put_seen<S: Reassembly + Drop, W: Write>(
     buffer: &mut Buffer,
     writer: &mut W,
     alloc: Global,
+    asked: &AuditAsked<'_>,
     audit: &mut Audit<S>,
     seen: &SeenDatagram<'_>,
     findings: &mut Vec<Finding>,
     tally: &mut Tally,
 ) -> Result<(), Fault<Infallible>>
-    ensures puts { OnOk result (PutsSeen seen.entry.now.time (view_seen seen.entry.now)
+    ensures puts { OnOk result (PutsSeen (view_asked asked.now) seen.entry.now.time (view_seen seen.entry.now)
         audit.old audit.new tally.old tally.new (W.contents writer.old) buffer.old (W.contents writer.new) buffer.new) }
-    ensures stops { OnErr result (StopsSeen seen.entry.now.time (view_seen seen.entry.now) audit.old
+    ensures stops { OnErr result (StopsSeen (view_asked asked.now) seen.entry.now.time (view_seen seen.entry.now) audit.old
         (W.contents writer.old) buffer.old (W.contents writer.new)) }
 {
-    put_due(buffer, writer, audit, seen.now, tally)?;
+    put_due(buffer, writer, asked, audit, seen.now, tally)?;
     findings.clear();
     let messages = audit.saw(alloc, seen.now, &seen.origin, seen.bytes, findings)?;
     tally.look(messages)?;
-    put_all_found(buffer, writer, seen.time, &seen.origin, findings, tally)
+    put_all_found(
+        buffer,
+        writer,
+        asked,
+        seen.time,
+        &seen.origin,
+        findings,
+        tally,
+    )
 }
 
-/// Prints everything that fell due by a moment.
+/// Prints everything that fell due by a moment, where it is told.
 pub(crate) fn put_due<S: Reassembly + Drop, W: Write>(
     buffer: &mut Buffer,
     writer: &mut W,
+    asked: &AuditAsked<'_>,
     audit: &mut Audit<S>,
     now: Moment,
     tally: &mut Tally,
 ) -> Result<(), Fault<Infallible>>
-    ensures puts { OnOk result (PutsDue now audit.old audit.new tally.old tally.new
+    ensures puts { OnOk result (PutsDue (view_asked asked.now) now audit.old audit.new tally.old tally.new
         (W.contents writer.old) buffer.old (W.contents writer.new) buffer.new) }
-    ensures stops { OnErr result (StopsDue now audit.old
+    ensures stops { OnErr result (StopsDue (view_asked asked.now) now audit.old
         (W.contents writer.old) buffer.old (W.contents writer.new)) }
     ensures read { IfErr result (λ fault. fault ≡ CannotRead → ⊥) }
 {
@@ -74,29 +87,81 @@ pub(crate) fn put_due<S: Reassembly + Drop, W: Write>(
         let Some(told) = audit.due(now) else {
             return Ok(());
         };
-        let kind = put_fell_due(buffer, writer, &told)?;
-        tally.tell(kind)?;
+        tell_due(buffer, writer, asked, &told, tally)?;
     }
 }
 
-/// Prints the findings of a datagram with this time.
+/// Prints the line of what fell due, and counts it, if it is told.
+fn tell_due<W: Write>(
+    buffer: &mut Buffer,
+    writer: &mut W,
+    asked: &AuditAsked<'_>,
+    told: &FellDue,
+    tally: &mut Tally,
+) -> Result<(), Fault<Infallible>>
+    ensures ok { OnOk result (Sends (W.contents writer.old) buffer.old (W.contents writer.new) buffer.new
+        (fell_line (view_asked asked.now) told.now)) }
+    ensures counts { OnOk result (CountsMore tally.old tally.new (fell_told (view_asked asked.now) (told.now ∷ []))) }
+    ensures more { OnOk result (tally.new.reports ≡ tally.old.reports + 1) }
+    ensures few { OnOk result (tally.new.reports < 2 ^ 64) }
+    ensures err { OnErr result (Stops (W.contents writer.old) buffer.old (W.contents writer.new)
+        (fell_line (view_asked asked.now) told.now)) }
+    ensures read { IfErr result (λ fault. fault ≡ CannotRead → ⊥) }
+{
+    if !is_due_told(asked, told) {
+        tally.pass()?;
+        return Ok(());
+    }
+    let kind = put_fell_due(buffer, writer, asked.frames, told)?;
+    tally.tell(kind)?;
+    Ok(())
+}
+
+/// Prints those findings of a datagram with this time that are told.
 fn put_all_found<W: Write>(
     buffer: &mut Buffer,
     writer: &mut W,
+    asked: &AuditAsked<'_>,
     time: Option<Time>,
     origin: &Origin,
     findings: &[Finding],
     tally: &mut Tally,
 ) -> Result<(), Fault<Infallible>>
     ensures ok { OnOk result (Sends (W.contents writer.old) buffer.old (W.contents writer.new) buffer.new
-        (flat_map (found_line time origin.now) findings.now)) }
-    ensures counts { OnOk result (CountsMore tally.old tally.new (map (found origin.now) findings.now)) }
+        (flat_map (found_line (view_asked asked.now) time origin.now) findings.now)) }
+    ensures counts { OnOk result (CountsMore tally.old tally.new
+        (filter (is_told_at (view_asked asked.now) time) (map (found origin.now) findings.now))) }
     ensures err { OnErr result (Stops (W.contents writer.old) buffer.old (W.contents writer.new)
-        (flat_map (found_line time origin.now) findings.now)) }
+        (flat_map (found_line (view_asked asked.now) time origin.now) findings.now)) }
 {
     for finding in findings {
-        let kind = put_found(buffer, writer, time, origin, finding)?;
-        tally.tell(kind)?;
+        tell_found(buffer, writer, asked, time, origin, finding, tally)?;
     }
+    Ok(())
+}
+
+/// Prints the line of a finding of a datagram with this time, and counts it, if it is told.
+fn tell_found<W: Write>(
+    buffer: &mut Buffer,
+    writer: &mut W,
+    asked: &AuditAsked<'_>,
+    time: Option<Time>,
+    origin: &Origin,
+    finding: &Finding,
+    tally: &mut Tally,
+) -> Result<(), Fault<Infallible>>
+    ensures ok { OnOk result (Sends (W.contents writer.old) buffer.old (W.contents writer.new) buffer.new
+        (found_line (view_asked asked.now) time origin.now finding.now)) }
+    ensures counts { OnOk result (CountsMore tally.old tally.new
+        (filter (is_told_at (view_asked asked.now) time) (found origin.now finding.now ∷ []))) }
+    ensures err { OnErr result (Stops (W.contents writer.old) buffer.old (W.contents writer.new)
+        (found_line (view_asked asked.now) time origin.now finding.now)) }
+{
+    if !is_found_told(asked, time, origin, finding) {
+        tally.pass()?;
+        return Ok(());
+    }
+    let kind = put_found(buffer, writer, asked.frames, time, origin, finding)?;
+    tally.tell(kind)?;
     Ok(())
 }

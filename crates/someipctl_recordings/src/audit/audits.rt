@@ -4,11 +4,13 @@
 //! counts them, so that a line can be found in both; the summary counts those that were looked at.
 ghost use Rattle.std.specs.Prelude.{◌≡◌, ◌≤◌, ◌<◌, ◌+◌, ◌^◌, [], IfErr, IfOk, List, None, OnErr, OnOk, Some, length, map};
 ghost use Rattle.someipctl_io.specs.declared.Fault.TheVariants.{CannotRead};
-ghost use Rattle.recording.specs.View.{view_datagram, view_record};
+ghost use Rattle.recording.specs.View.{view_record};
+ghost use Rattle.recording_packets.specs.View.{view_arrival};
 ghost use Rattle.someip_audit.specs.Audits.{Report};
 ghost use Rattle.recording_packets.specs.Intake.{after_packet, arrived};
 ghost use Rattle.someipctl_recordings.specs.Moments.{moment_of};
-ghost use Rattle.someipctl_recordings.specs.audit.AuditResult.{BeginsAudit, ShowsAudit, view_asked};
+ghost use Rattle.someipctl_recordings.specs.audit.AskedAudits.{view_asked};
+ghost use Rattle.someipctl_recordings.specs.audit.AuditResult.{BeginsAudit, ShowsAudit};
 ghost use Rattle.someipctl_recordings.specs.audit.AuditText.{Looked};
 ghost use Rattle.someipctl_recordings.specs.audit.Runs.{PutsAudit, PutsDatagram, PutsEnd, PutsLast, PutsNext, PutsRecord};
 ghost use Rattle.someipctl_recordings.specs.audit.Runs.{StopsDatagram, StopsEnd, StopsLast, StopsNext, StopsRecord};
@@ -23,13 +25,14 @@ use crate::audit::tally::Tally;
 use crate::moments::moment_of;
 use crate::read_loop::{Coming, next_coming};
 use crate::reassembly::socket_of;
+use crate::sought::ports_of;
 use crate::{FileFault, ShownRecording, StoppedAt};
-use recording::{Datagram, Record, RecordingReader, Time};
-use recording_packets::{Intake, LeftOut};
-use someip_audit::{Audit, Finding};
+use recording::{Record, RecordingReader, Time};
+use recording_packets::{Arrival, Intake, LeftOut};
+use someip_audit::{Audit, Finding, WatchRules};
 use someip_reassembly::Reassembly;
 use someip_tables::Moment;
-use someip_tables::hashed::Origin;
+use someip_tables::hashed::{Numbers, Origin};
 use someipctl_io::{Buffer, Fault, Outcome};
 use std::alloc::{AllocError, Global};
 use std::convert::Infallible;
@@ -129,7 +132,7 @@ fn put_audit<S: Reassembly + Drop, R: Read, W: Write>(
     ensures unread { IfErr result (λ fault. fault ≡ CannotRead → file.new < length sources.old) }
 {
     let alloc = auditing.alloc;
-    let mut intake = Intake::new(alloc, &asked.packets);
+    let mut intake = Intake::new(alloc, &asked.wanted.packets);
     let mut recording = RecordingReader::new(alloc);
     let mut gone = Gone::nothing();
     while *file < sources.len() {
@@ -141,6 +144,7 @@ fn put_audit<S: Reassembly + Drop, R: Read, W: Write>(
                 return put_end(
                     buffer,
                     writer,
+                    asked,
                     auditing,
                     &mut gone,
                     intake.left_out(),
@@ -165,7 +169,15 @@ fn put_audit<S: Reassembly + Drop, R: Read, W: Write>(
             )?;
         }
     }
-    put_end(buffer, writer, auditing, &mut gone, intake.left_out(), None)
+    put_end(
+        buffer,
+        writer,
+        asked,
+        auditing,
+        &mut gone,
+        intake.left_out(),
+        None,
+    )
 }
 
 /// Takes a record, and prints what is told of its datagram, if it gives one.
@@ -180,19 +192,19 @@ fn put_record<S: Reassembly + Drop, W: Write>(
 ) -> Result<(), Fault<Infallible>>
     requires few { gone.old.datagrams ≤ intake.old.frames }
     ensures puts { OnOk result (PutsRecord (view_asked asked.now)
-        (arrived (view_asked asked.now).packets intake.old (view_record found.now))
+        (arrived (view_asked asked.now).wanted.packets intake.old (view_record found.now))
         auditing.old.audit auditing.new.audit gone.old gone.new
         (W.contents writer.old) buffer.old (W.contents writer.new) buffer.new) }
     ensures took { OnOk result (intake.new
-        ≡ after_packet (view_asked asked.now).packets intake.old (view_record found.now)) }
+        ≡ after_packet (view_asked asked.now).wanted.packets intake.old (view_record found.now)) }
     ensures few { OnOk result (gone.new.datagrams ≤ intake.new.frames) }
     ensures stops { OnErr result (StopsRecord (view_asked asked.now)
-        (arrived (view_asked asked.now).packets intake.old (view_record found.now))
+        (arrived (view_asked asked.now).wanted.packets intake.old (view_record found.now))
         auditing.old.audit gone.old (W.contents writer.old) buffer.old (W.contents writer.new)) }
 {
-    let taken = intake.take(&asked.packets, found)?;
+    let taken = intake.take(&asked.wanted.packets, found)?;
     match intake.arrival(taken) {
-        Some(arrival) => put_datagram(buffer, writer, asked, &arrival.datagram, auditing, gone),
+        Some(arrival) => put_datagram(buffer, writer, asked, &arrival, auditing, gone),
         None => Ok(()),
     }
 }
@@ -202,18 +214,18 @@ fn put_datagram<S: Reassembly + Drop, W: Write>(
     buffer: &mut Buffer,
     writer: &mut W,
     asked: &AuditAsked<'_>,
-    datagram: &Datagram<'_>,
+    arrival: &Arrival<'_>,
     auditing: &mut Auditing<S>,
     gone: &mut Gone,
 ) -> Result<(), Fault<Infallible>>
     requires few { gone.old.datagrams + 1 < 2 ^ 64 }
-    ensures puts { OnOk result (PutsDatagram (view_asked asked.now) (view_datagram datagram.now)
+    ensures puts { OnOk result (PutsDatagram (view_asked asked.now) (view_arrival arrival.now)
         auditing.old.audit auditing.new.audit gone.old gone.new
         (W.contents writer.old) buffer.old (W.contents writer.new) buffer.new) }
-    ensures stops { OnErr result (StopsDatagram (view_asked asked.now) (view_datagram datagram.now)
+    ensures stops { OnErr result (StopsDatagram (view_asked asked.now) (view_arrival arrival.now)
         auditing.old.audit gone.old (W.contents writer.old) buffer.old (W.contents writer.new)) }
 {
-    let seen = seen_next(gone.datagrams, gone.now, datagram);
+    let seen = seen_next(gone.datagrams, gone.now, arrival);
     put_next(buffer, writer, asked, &seen, auditing, &mut gone.tally)?;
     gone.datagrams += 1;
     gone.now = seen.now;
@@ -221,16 +233,20 @@ fn put_datagram<S: Reassembly + Drop, W: Write>(
 }
 
 /// The next datagram, where so many came before it, the latest at this moment.
-fn seen_next<'d>(count: usize, latest: Moment, datagram: &Datagram<'d>) -> SeenDatagram<'d>
+fn seen_next<'d>(count: usize, latest: Moment, arrival: &Arrival<'d>) -> SeenDatagram<'d>
     requires { count + 1 < 2 ^ 64 }
-    ensures seen { view_seen result ≡ seen_next count latest (view_datagram datagram.now) }
-    ensures time { result.time ≡ datagram.now.time }
+    ensures seen { view_seen result ≡ seen_next count latest (view_arrival arrival.now) }
+    ensures time { result.time ≡ arrival.now.datagram.time }
 {
+    let datagram = &arrival.datagram;
     SeenDatagram {
         time: datagram.time,
         now: moment_after(latest, datagram.time),
         origin: Origin {
-            datagram: count as u64 + 1,
+            numbers: Numbers {
+                datagram: count as u64 + 1,
+                frame: arrival.frame as u64,
+            },
             from: socket_of(datagram.from),
             to: socket_of(datagram.to),
         },
@@ -268,7 +284,7 @@ fn put_next<S: Reassembly + Drop, W: Write>(
     }
     let findings = &mut auditing.findings;
     match &mut auditing.audit {
-        Some(audit) => put_seen(buffer, writer, alloc, audit, seen, findings, tally),
+        Some(audit) => { put_seen(buffer, writer, alloc, asked, audit, seen, findings, tally) },
         None => unreachable!(),
     }
 }
@@ -286,7 +302,11 @@ fn begin_with<S: Reassembly + Drop>(
     ensures begun { OnOk result (audit.new ≡ Some (audit_at (view_asked asked.now) None (view_seen seen.entry.now))) }
     ensures same { OnErr result (audit.new ≡ audit.old) }
 {
-    *audit = Some(Audit::begin(alloc, &asked.rules, asked.ports, seen.now)?);
+    let watch = WatchRules {
+        ports: ports_of(asked.wanted.ports),
+        learns: asked.wanted.learned || asked.wanted.ports.is_none(),
+    };
+    *audit = Some(Audit::begin(alloc, &asked.rules, &watch, seen.now)?);
     Ok(())
 }
 
@@ -294,16 +314,17 @@ fn begin_with<S: Reassembly + Drop>(
 fn put_end<S: Reassembly + Drop, W: Write>(
     buffer: &mut Buffer,
     writer: &mut W,
+    asked: &AuditAsked<'_>,
     auditing: &mut Auditing<S>,
     gone: &mut Gone,
     left_out: LeftOut,
     fault: Option<FileFault>,
 ) -> Result<ShownRecording, Fault<Infallible>>
     ensures puts { (reports : List Report) (looked : Looked) → Counts gone.old.tally reports looked
-        → IfOk result (PutsEnd gone.old auditing.old.audit reports looked
+        → IfOk result (PutsEnd (view_asked asked.now) gone.old auditing.old.audit reports looked
         (W.contents writer.old) buffer.old (W.contents writer.new) buffer.new) }
     ensures stops { (reports : List Report) (looked : Looked) → Counts gone.old.tally reports looked
-        → OnErr result (StopsEnd gone.old auditing.old.audit reports looked
+        → OnErr result (StopsEnd (view_asked asked.now) gone.old auditing.old.audit reports looked
         (W.contents writer.old) buffer.old (W.contents writer.new)) }
     ensures fault { IfOk result (λ shown. shown.fault ≡ fault) }
     ensures left_out { IfOk result (λ shown. shown.left_out ≡ left_out) }
@@ -312,6 +333,7 @@ fn put_end<S: Reassembly + Drop, W: Write>(
     put_last(
         buffer,
         writer,
+        asked,
         &mut auditing.audit,
         gone.now,
         &mut gone.tally,
@@ -320,6 +342,7 @@ fn put_end<S: Reassembly + Drop, W: Write>(
     Ok(ShownRecording {
         outcome: Outcome::of(gone.tally.findings > 0),
         left_out,
+        is_full: false,
         fault,
     })
 }
@@ -328,18 +351,19 @@ fn put_end<S: Reassembly + Drop, W: Write>(
 fn put_last<S: Reassembly + Drop, W: Write>(
     buffer: &mut Buffer,
     writer: &mut W,
+    asked: &AuditAsked<'_>,
     audit: &mut Option<Audit<S>>,
     now: Moment,
     tally: &mut Tally,
 ) -> Result<(), Fault<Infallible>>
-    ensures puts { OnOk result (PutsLast now audit.old tally.old tally.new
+    ensures puts { OnOk result (PutsLast (view_asked asked.now) now audit.old tally.old tally.new
         (W.contents writer.old) buffer.old (W.contents writer.new) buffer.new) }
-    ensures stops { OnErr result (StopsLast now audit.old
+    ensures stops { OnErr result (StopsLast (view_asked asked.now) now audit.old
         (W.contents writer.old) buffer.old (W.contents writer.new)) }
     ensures read { IfErr result (λ fault. fault ≡ CannotRead → ⊥) }
 {
     match audit {
-        Some(audit) => put_due(buffer, writer, audit, now, tally),
+        Some(audit) => put_due(buffer, writer, asked, audit, now, tally),
         None => Ok(()),
     }
 }

@@ -1,6 +1,7 @@
 //! Laws of the definitions behind the contracts: the texts of an audit, by example, and that a recording has one. Each
 //! is the contract of a function that does nothing.
-ghost use Rattle.std.specs.Prelude.{◌≡◌, ◌∷◌, [], List, Some, None, codes, true};
+ghost use Rattle.std.specs.Prelude.{◌≡◌, ◌∷◌, [], List, Some, None, codes, true, false};
+ghost use Rattle.std.specs.List.{flat_map};
 ghost use Rattle.sd_wire.specs.declared.SdError.TheVariants as sd;
 ghost use Rattle.someip_wire.specs.declared.WireError.TheVariants as wire;
 ghost use Rattle.someip_reassembly.specs.declared.TpError.TheVariants as segments;
@@ -13,9 +14,14 @@ ghost use Rattle.audit_sd.specs.declared.subscriptions.Finding.TheVariants as su
 ghost use Rattle.someip_audit.specs.declared.FellDue.TheVariants as due;
 ghost use Rattle.someip_audit.specs.declared.Finding.TheVariants as findings;
 ghost use Rattle.someip_audit.specs.Audits.{Report, Seen, found};
-ghost use Rattle.someipctl_recordings.specs.audit.AuditText.{fell_line, found_line, summary_text};
+ghost use Rattle.recording_packets.specs.Intake.{ArrivalValue};
+ghost use Rattle.someipctl_recordings.specs.audit.AskedAudits.{AskedAudit};
+ghost use Rattle.someipctl_recordings.specs.audit.AuditText.{due_line, finding_line, is_due_told, is_found_told, plain_line};
+ghost use Rattle.someipctl_recordings.specs.audit.AuditText.{report_lines, summary_text, told_of};
 ghost use Rattle.someipctl_recordings.specs.audit.Said.{said, said_text};
-ghost use Rattle.someipctl_recordings.specs.audit.SeenIn.{AskedAudit, Tells, looked_of};
+ghost use Rattle.someipctl_recordings.specs.audit.SeenIn.{Tells, looked_of};
+ghost use Rattle.someipctl_recordings.specs.audit.Subjects.{ChoosesNone};
+ghost use Rattle.someipctl_recordings.specs.audit.TextScenes.{before, method_of, of_address, of_client, of_services, whole_service};
 ghost use Rattle.someipctl_recordings.specs.audit.TextScenes.{event_1, flow_1, header_1, key_1, offer_1, origin_1};
 ghost use Rattle.someipctl_recordings.specs.audit.TextScenes.{expired_1, missing_1, subscribe_1, unanswered_1};
 
@@ -54,20 +60,63 @@ pub fn findings_have_texts()
 {}
 
 /// Whole lines, by example: that of a finding has the time of its datagram, and that of what fell due its
-/// deadline, with the datagram of the request, the first segment, the newest Offer or the Subscribe.
+/// deadline, with the datagram of the request, the first segment, the newest Offer or the Subscribe. Where it is
+/// asked for, the number of the packet comes first.
 pub fn lines_have_a_time_and_a_datagram()
-    ensures found { found_line (Some (record { seconds = 5; nanoseconds = 7 })) origin_1
+    ensures found { finding_line false (Some (record { seconds = 5; nanoseconds = 7 })) origin_1
         (findings.Session sessions.Reboot) ≡ codes "5.000000007 12 192.168.0.1:40000 192.168.0.2:30490 reboot\n" }
-    ensures without_time { found_line None origin_1 (findings.Session sessions.Reboot)
+    ensures without_time { finding_line false None origin_1 (findings.Session sessions.Reboot)
         ≡ codes "- 12 192.168.0.1:40000 192.168.0.2:30490 reboot\n" }
-    ensures unanswered { fell_line (due.Unanswered unanswered_1)
+    ensures frame { finding_line true None origin_1 (findings.Session sessions.Reboot)
+        ≡ codes "#14 - 12 192.168.0.1:40000 192.168.0.2:30490 reboot\n" }
+    ensures unanswered { due_line false (due.Unanswered unanswered_1)
         ≡ codes "4.500000000 8 192.168.0.2:40001 192.168.0.1:30509 unanswered 1234.0421 client 0101 session 0002\n" }
-    ensures missing { fell_line (due.Missing missing_1)
+    ensures frame_of_call { due_line true (due.Unanswered unanswered_1)
+        ≡ codes "#9 4.500000000 8 192.168.0.2:40001 192.168.0.1:30509 unanswered 1234.0421 client 0101 session 0002\n" }
+    ensures missing { due_line false (due.Missing missing_1)
         ≡ codes "7.000000000 9 192.168.0.1:30509 192.168.0.2:40001 segments missing 1234.0421 client 0101 session 0002\n" }
-    ensures expired { fell_line (due.Expired expired_1)
+    ensures expired { due_line false (due.Expired expired_1)
         ≡ codes "8.003000000 12 192.168.0.1:40000 192.168.0.2:30490 offer expired 1234.0001 major 02\n" }
-    ensures subscribe { fell_line (due.SubscribeUnanswered subscribe_1)
+    ensures subscribe { due_line false (due.SubscribeUnanswered subscribe_1)
         ≡ codes "9.000000000 12 192.168.0.1:40000 192.168.0.2:30490 subscribe unanswered 1234.0001 major 02 group 0005 counter 3\n" }
+{}
+
+/// Which findings are told, by example: of a service, a method, a client, an address and a time exactly those that
+/// name it; an Offer names no method; a reboot names no service; and that a book is full is always told.
+pub fn findings_are_told_by_what_they_name()
+    ensures service { is_due_told (of_services (whole_service 0x1234)) (due.Unanswered unanswered_1) ≡ true }
+    ensures other_service { is_due_told (of_services (whole_service 0x1235)) (due.Unanswered unanswered_1) ≡ false }
+    ensures method { is_due_told (of_services (method_of 0x1234 0x0421)) (due.Missing missing_1) ≡ true }
+    ensures other_method { is_due_told (of_services (method_of 0x1234 0x0422)) (due.Missing missing_1) ≡ false }
+    ensures offer { is_due_told (of_services (whole_service 0x1234)) (due.Expired expired_1) ≡ true }
+    ensures no_method { is_due_told (of_services (method_of 0x1234 0x0421)) (due.Expired expired_1) ≡ false }
+    ensures reboot { is_found_told (of_services (whole_service 0x1234)) None origin_1 (findings.Session sessions.Reboot)
+        ≡ false }
+    ensures full { is_found_told (of_services (whole_service 0x1235)) None origin_1
+        (findings.Offer offer_1 offers.Full) ≡ true }
+    ensures moved { is_found_told (of_services (whole_service 0x1235)) None origin_1
+        (findings.Offer offer_1 offers.Moved) ≡ false }
+    ensures client { is_due_told (of_client 0x0101) (due.Unanswered unanswered_1) ≡ true }
+    ensures other_client { is_due_told (of_client 0x0102) (due.Unanswered unanswered_1) ≡ false }
+    ensures address { is_due_told (of_address 0xC0A80001) (due.Unanswered unanswered_1) ≡ true }
+    ensures other_address { is_due_told (of_address 0xC0A80003) (due.Unanswered unanswered_1) ≡ false }
+    ensures deadline { is_due_told (before (record { seconds = 4; nanoseconds = 500000001 }))
+        (due.Unanswered unanswered_1) ≡ true }
+    ensures too_late { is_due_told (before (record { seconds = 4; nanoseconds = 500000000 }))
+        (due.Unanswered unanswered_1) ≡ false }
+{}
+
+/// The lines of an audit are those of the findings that are told, in order, and no others.
+pub fn lines_are_of_what_is_told()
+    ensures { (asked : AskedAudit) (arrivals : List ArrivalValue) (reports : List Report)
+        → report_lines asked arrivals reports
+        ≡ flat_map (plain_line asked arrivals) (told_of asked arrivals reports) }
+{}
+
+/// Where no service, client, address or time is named every finding is told.
+pub fn all_findings_are_told()
+    ensures { (asked : AskedAudit) (arrivals : List ArrivalValue) (reports : List Report) → ChoosesNone asked.wanted
+        → told_of asked arrivals reports ≡ reports }
 {}
 
 /// The summary, by example: kinds that did not come are not named.

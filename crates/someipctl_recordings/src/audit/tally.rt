@@ -3,7 +3,7 @@
 //! Where 2^64 things were counted, the audit ends as where memory runs out: no recording has so many
 //! datagrams.
 ghost use Rattle.std.specs.Prelude.{◌≡◌, ◌≤◌, ◌<◌, ◌+◌, ◌^◌, [], IfOk, OnErr, OnOk};
-ghost use Rattle.someipctl_recordings.specs.audit.Tallies.{Counts, most_looked, most_told, tally_after, tally_looked};
+ghost use Rattle.someipctl_recordings.specs.audit.Tallies.{Counts, most_looked, most_told, tally_after, tally_looked, tally_passed};
 
 use crate::audit::kind::{KIND_COUNT, Kind};
 use std::alloc::AllocError;
@@ -15,6 +15,8 @@ pub(crate) struct Tally {
     pub(crate) datagrams: usize,
     /// How many messages in them can be read.
     pub(crate) messages: usize,
+    /// How many findings there were, told or not.
+    pub(crate) reports: usize,
     /// How many findings were told.
     pub(crate) findings: usize,
     /// How many of each kind, at its number.
@@ -29,22 +31,35 @@ impl Tally {
         Tally {
             datagrams: 0,
             messages: 0,
+            reports: 0,
             findings: 0,
             kinds: [0; KIND_COUNT],
         }
     }
 
-    /// Counts one more finding of a kind. The error is that there is no room for its number.
+    /// Counts one more finding of a kind, which is told. The error is that there is no room for its number.
     pub(crate) fn tell(&mut self, kind: Kind) -> Result<(), AllocError>
         ensures counted { OnOk result (self.new ≡ tally_after kind self.old) }
-        ensures few { OnOk result (self.new.findings < 2 ^ 64) }
+        ensures few { OnOk result (self.new.reports < 2 ^ 64) }
         ensures full { OnErr result (2 ^ 64 ≤ most_told kind self.old) }
     {
         let number = kind.number();
+        let reports = one_more(self.reports)?;
         let findings = one_more(self.findings)?;
         let of_kind = one_more(self.kinds[number])?;
+        self.reports = reports;
         self.findings = findings;
         self.kinds[number] = of_kind;
+        Ok(())
+    }
+
+    /// Counts one more finding, which is not told. The error is that there is no room for its number.
+    pub(crate) fn pass(&mut self) -> Result<(), AllocError>
+        ensures passed { OnOk result (self.new ≡ tally_passed self.old) }
+        ensures few { OnOk result (self.new.reports < 2 ^ 64) }
+        ensures full { OnErr result (2 ^ 64 ≤ self.old.reports + 1) }
+    {
+        self.reports = one_more(self.reports)?;
         Ok(())
     }
 

@@ -102,7 +102,7 @@ fn comes_out(book: &mut OfferBook, act: &Act) -> bool {
             true
         }
         Due(millis, told) => match book.due(at(*millis)) {
-            Some(expired) => *told == Some((expired.at, expired.offer.origin.datagram)),
+            Some(expired) => *told == Some((expired.at, expired.offer.origin.numbers.datagram)),
             None => told.is_none(),
         },
         Next(moment) => book.next_due() == *moment,

@@ -101,7 +101,7 @@ fn comes_out(book: &mut SubscribeBook, act: &Act) -> bool {
             true
         }
         Due(millis, told) => match book.due(at(*millis)) {
-            Some(unanswered) => *told == Some((unanswered.at, unanswered.origin.datagram)),
+            Some(unanswered) => *told == Some((unanswered.at, unanswered.origin.numbers.datagram)),
             None => told.is_none(),
         },
         Next(moment) => book.next_due() == *moment,

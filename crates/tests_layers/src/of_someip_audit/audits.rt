@@ -1,9 +1,9 @@
 //! Datagrams of a recording, over all books.
-use crate::of_audit_sd::places::{at, endpoint};
+use crate::of_audit_sd::places::{at, endpoint, numbered};
 use audit_traffic::calls::CallFinding;
 use audit_traffic::segments::SegmentRules;
 use sd_wire::SdError;
-use someip_audit::{Audit, AuditRules, FellDue, Finding};
+use someip_audit::{Audit, AuditRules, FellDue, Finding, WatchRules};
 use someip_reassembly::SegmentList;
 use someip_tables::Moment;
 use someip_tables::hashed::Origin;
@@ -287,7 +287,7 @@ fn add_shown(
 ) -> Option<Option<usize>> {
     let bytes = hex::decode(alloc, row.3).ok()?;
     let origin = Origin {
-        datagram: number,
+        numbers: numbered(number),
         from: endpoint(row.1.0, row.1.1),
         to: endpoint(row.2.0, row.2.1),
     };
@@ -328,7 +328,11 @@ fn rules(limit: usize) -> AuditRules {
 
 /// The number of the first row that comes out otherwise.
 fn first_wrong(alloc: Global, ports: Option<&[u16]>, limit: usize, rows: &[Row]) -> Option<usize> {
-    match Audit::begin(alloc, &rules(limit), ports, at(50)) {
+    let watch = WatchRules {
+        ports: ports.unwrap_or(&[]),
+        learns: ports.is_none(),
+    };
+    match Audit::begin(alloc, &rules(limit), &watch, at(50)) {
         Ok(mut audit) => first_wrong_in(alloc, &mut audit, rows),
         Err(_) => Some(0),
     }

@@ -14,8 +14,8 @@ pub loop-file-init : goal.loop-file-init
 loop-file-init g c = (
   rw c.requires.first
       (shown_begin (view_asked c.args.asked.now) (map g.R.Read.remaining c.args.sources.now) c.new-recording.result (g.W.Write.contents c.args.writer.now) c.args.buffer.now
-      (progress_of c.args.recorder.now.shown (view_store g.S.Reassembly.limits g.S.Reassembly.parts c.args.recorder.now.telling.store)) c.new-intake.result
-      c.new-recording.ensures c.requires.empty (rw (c.requires.shown, c.requires.store) refl) c.new-intake.ensures),
+      (progress_of c.args.recorder.now.shown (view_store g.S.Reassembly.limits g.S.Reassembly.parts c.args.recorder.now.telling.store)) (record { intake = c.new-intake.result; learner = c.args.recorder.now.learner })
+      c.new-recording.ensures c.requires.empty (rw (c.requires.shown, c.requires.store) refl) (rw (c.new-intake.ensures, c.requires.learner) refl)),
   rw c.requires.shown (omega arith),
   c.requires.lines,
   c.requires.types,
@@ -32,14 +32,14 @@ returns-in-Fault-clause-puts g c =
     let none = rw c.in-Fault.is at c.in_ok-coming.ensures.ended in
     rw c.ended.ensures
     (puts_fault (view_asked c.args.asked.now) (map g.R.Read.remaining c.args.sources.now) (map g.R.Read.remaining c.loop-file.sources) c.loop-file.file c.loop-file.recording c.next_coming.new.recording (g.R.Read.remaining c.next_coming.new.source) _ _ _ c.loop-file.buffer c.next_coming.new.buffer c.loop-file.recorder.shown
-    (view_store g.S.Reassembly.limits g.S.Reassembly.parts c.loop-file.recorder.telling.store) c.loop-file.intake c.in-Fault.fault c.left_out.result
+    (view_store g.S.Reassembly.limits g.S.Reassembly.parts c.loop-file.recorder.telling.store) (record { intake = c.loop-file.intake; learner = c.loop-file.recorder.learner }) c.in-Fault.fault c.left_out.result
     c.loop-file.invariant.0 (within_map g.R.Read.remaining c.loop-file.sources c.loop-file.file c.loop-file-test.true) comes none c.in_ok-coming.ensures.sends c.left_out.ensures)
 
 pub loop-file-preserved-in-End : goal.loop-file-preserved-in-End
 loop-file-preserved-in-End g c =
     let comes = comes_own g.R.Read.remaining c.loop-file.sources c.loop-file.file c.index-sources-file.result c.loop-file.recording c.next_coming.new.recording (g.R.Read.remaining c.next_coming.new.source) ([]) c.loop-file-test.true (rw c.in-End.is at c.in_ok-coming.ensures.comes) in
     let none = rw c.in-End.is at c.in_ok-coming.ensures.ended in (
-      shown_next (view_asked c.args.asked.now) (map g.R.Read.remaining c.args.sources.now) (map g.R.Read.remaining c.loop-file.sources) (map g.R.Read.remaining (set c.loop-file.sources c.loop-file.file c.next_coming.new.source)) c.loop-file.file c.loop-file.recording c.next_coming.new.recording c.new-recording-in-End.result (g.R.Read.remaining c.next_coming.new.source) _ _ _ c.loop-file.buffer c.next_coming.new.buffer _ c.loop-file.intake
+      shown_next (view_asked c.args.asked.now) (map g.R.Read.remaining c.args.sources.now) (map g.R.Read.remaining c.loop-file.sources) (map g.R.Read.remaining (set c.loop-file.sources c.loop-file.file c.next_coming.new.source)) c.loop-file.file c.loop-file.recording c.next_coming.new.recording c.new-recording-in-End.result (g.R.Read.remaining c.next_coming.new.source) _ _ _ c.loop-file.buffer c.next_coming.new.buffer _ (record { intake = c.loop-file.intake; learner = c.loop-file.recorder.learner })
           c.loop-file.invariant.0 (within_map g.R.Read.remaining c.loop-file.sources c.loop-file.file c.loop-file-test.true) (is_step g.R.Read.remaining c.loop-file.sources c.loop-file.file c.next_coming.new.source c.loop-file-test.true) comes none c.in_ok-coming.ensures.sends c.new-recording-in-End.ensures,
       c.loop-file.invariant.1,
       c.loop-file.invariant.2,
@@ -73,7 +73,7 @@ loop-file-preserved-in-Continue-branch-2 g c =
     let taken = sym c.record.ensures ∙ ap (option_map view_record) c.in-Some.is in
     let comes = comes_own g.R.Read.remaining c.loop-file.sources c.loop-file.file c.index-sources-file.result c.loop-file.recording c.next_coming.new.recording (g.R.Read.remaining c.next_coming.new.source) (Ok (view_record c.in-Some.found) ∷ []) c.loop-file-test.true (comes_taken c.loop-file.recording c.next_coming.new.recording _ _ c.in_ok-coming.coming _ c.in-Record.is taken c.in_ok-coming.ensures.comes) in
     let e = c.in_ok-put_record.ensures in (
-      shown_more (view_asked c.args.asked.now) (map g.R.Read.remaining c.args.sources.now) (map g.R.Read.remaining c.loop-file.sources) (map g.R.Read.remaining (set c.loop-file.sources c.loop-file.file c.next_coming.new.source)) c.loop-file.file c.loop-file.recording c.next_coming.new.recording (g.R.Read.remaining c.next_coming.new.source) _ _ _ _ c.loop-file.buffer c.next_coming.new.buffer c.put_record.new.buffer _ _ c.loop-file.intake c.put_record.new.intake (Ok (view_record c.in-Some.found) ∷ [])
+      shown_more (view_asked c.args.asked.now) (map g.R.Read.remaining c.args.sources.now) (map g.R.Read.remaining c.loop-file.sources) (map g.R.Read.remaining (set c.loop-file.sources c.loop-file.file c.next_coming.new.source)) c.loop-file.file c.loop-file.recording c.next_coming.new.recording (g.R.Read.remaining c.next_coming.new.source) _ _ _ _ c.loop-file.buffer c.next_coming.new.buffer c.put_record.new.buffer _ _ (record { intake = c.loop-file.intake; learner = c.loop-file.recorder.learner }) (record { intake = c.put_record.new.intake; learner = c.put_record.new.recorder.learner }) (Ok (view_record c.in-Some.found) ∷ [])
           c.loop-file.invariant.0 (within_map g.R.Read.remaining c.loop-file.sources c.loop-file.file c.loop-file-test.true) (is_step g.R.Read.remaining c.loop-file.sources c.loop-file.file c.next_coming.new.source c.loop-file-test.true) comes c.in_ok-coming.ensures.sends e.ok e.progress e.took refl,
       e.few,
       e.empty,
@@ -86,14 +86,14 @@ returns-in_err-put_record-clause-begun g c =
     let taken = sym c.record.ensures ∙ ap (option_map view_record) c.in-Some.is in
     let comes = comes_own g.R.Read.remaining c.loop-file.sources c.loop-file.file c.index-sources-file.result c.loop-file.recording c.next_coming.new.recording (g.R.Read.remaining c.next_coming.new.source) (Ok (view_record c.in-Some.found) ∷ []) c.loop-file-test.true (comes_taken c.loop-file.recording c.next_coming.new.recording _ _ c.in_ok-coming.coming _ c.in-Record.is taken c.in_ok-coming.ensures.comes) in
     OnErr-any c.from_residual-in_err-put_record.result
-    (stops_within (view_asked c.args.asked.now) (map g.R.Read.remaining c.args.sources.now) (map g.R.Read.remaining c.loop-file.sources) (map g.R.Read.remaining (set c.loop-file.sources c.loop-file.file c.next_coming.new.source)) c.loop-file.file c.loop-file.recording c.next_coming.new.recording (g.R.Read.remaining c.next_coming.new.source) _ _ _ _ c.loop-file.buffer c.next_coming.new.buffer _ c.loop-file.intake (Ok (view_record c.in-Some.found) ∷ [])
+    (stops_within (view_asked c.args.asked.now) (map g.R.Read.remaining c.args.sources.now) (map g.R.Read.remaining c.loop-file.sources) (map g.R.Read.remaining (set c.loop-file.sources c.loop-file.file c.next_coming.new.source)) c.loop-file.file c.loop-file.recording c.next_coming.new.recording (g.R.Read.remaining c.next_coming.new.source) _ _ _ _ c.loop-file.buffer c.next_coming.new.buffer _ (record { intake = c.loop-file.intake; learner = c.loop-file.recorder.learner }) (Ok (view_record c.in-Some.found) ∷ [])
     c.loop-file.invariant.0 (within_map g.R.Read.remaining c.loop-file.sources c.loop-file.file c.loop-file-test.true) (is_step g.R.Read.remaining c.loop-file.sources c.loop-file.file c.next_coming.new.source c.loop-file-test.true) comes c.in_ok-coming.ensures.sends c.in_err-put_record.ensures.err)
 
 pub loop-file-preserved : goal.loop-file-preserved
 loop-file-preserved g c =
     let none = sym c.record.ensures ∙ ap (option_map view_record) c.in_default.is in
     let comes = comes_own g.R.Read.remaining c.loop-file.sources c.loop-file.file c.index-sources-file.result c.loop-file.recording c.next_coming.new.recording (g.R.Read.remaining c.next_coming.new.source) ([]) c.loop-file-test.true (comes_empty c.loop-file.recording c.next_coming.new.recording _ _ c.in_ok-coming.coming c.in-Record.is none c.in_ok-coming.ensures.comes) in (
-      shown_same (view_asked c.args.asked.now) (map g.R.Read.remaining c.args.sources.now) (map g.R.Read.remaining c.loop-file.sources) (map g.R.Read.remaining (set c.loop-file.sources c.loop-file.file c.next_coming.new.source)) c.loop-file.file c.loop-file.recording c.next_coming.new.recording (g.R.Read.remaining c.next_coming.new.source) _ _ _ c.loop-file.buffer c.next_coming.new.buffer _ c.loop-file.intake c.loop-file.invariant.0 (within_map g.R.Read.remaining c.loop-file.sources c.loop-file.file c.loop-file-test.true) (is_step g.R.Read.remaining c.loop-file.sources c.loop-file.file c.next_coming.new.source c.loop-file-test.true) comes c.in_ok-coming.ensures.sends,
+      shown_same (view_asked c.args.asked.now) (map g.R.Read.remaining c.args.sources.now) (map g.R.Read.remaining c.loop-file.sources) (map g.R.Read.remaining (set c.loop-file.sources c.loop-file.file c.next_coming.new.source)) c.loop-file.file c.loop-file.recording c.next_coming.new.recording (g.R.Read.remaining c.next_coming.new.source) _ _ _ c.loop-file.buffer c.next_coming.new.buffer _ (record { intake = c.loop-file.intake; learner = c.loop-file.recorder.learner }) c.loop-file.invariant.0 (within_map g.R.Read.remaining c.loop-file.sources c.loop-file.file c.loop-file-test.true) (is_step g.R.Read.remaining c.loop-file.sources c.loop-file.file c.next_coming.new.source c.loop-file-test.true) comes c.in_ok-coming.ensures.sends,
       c.loop-file.invariant.1,
       c.loop-file.invariant.2,
       c.loop-file.invariant.3,
@@ -103,5 +103,5 @@ loop-file-preserved g c =
 pub returns-clause-puts : goal.returns-clause-puts
 returns-clause-puts g c =
     rw c.ended-2.ensures
-    (puts_end (view_asked c.args.asked.now) (map g.R.Read.remaining c.args.sources.now) (map g.R.Read.remaining c.loop-file.sources) c.loop-file.file c.loop-file.recording _ _ c.loop-file.buffer c.loop-file.recorder.shown (view_store g.S.Reassembly.limits g.S.Reassembly.parts c.loop-file.recorder.telling.store) c.loop-file.intake c.left_out-2.result
+    (puts_end (view_asked c.args.asked.now) (map g.R.Read.remaining c.args.sources.now) (map g.R.Read.remaining c.loop-file.sources) c.loop-file.file c.loop-file.recording _ _ c.loop-file.buffer c.loop-file.recorder.shown (view_store g.S.Reassembly.limits g.S.Reassembly.parts c.loop-file.recorder.telling.store) (record { intake = c.loop-file.intake; learner = c.loop-file.recorder.learner }) c.left_out-2.result
     c.loop-file.invariant.0 (past_map g.R.Read.remaining c.loop-file.sources c.loop-file.file c.loop-file-test.false) c.left_out-2.ensures)

@@ -12,7 +12,7 @@ decreases-loop-file g l = (length l.sources - l.file) * (2 ^ 64 + 1) + (2 ^ 64 -
 abbrev pub invariant-loop-file : goal.invariant-loop-file
 invariant-loop-file g l =
     IsShown (view_asked l.asked) (map g.R.Read.remaining l.fn.sources) (map g.R.Read.remaining l.sources) l.file l.recording (g.W.Write.contents l.fn.writer) (g.W.Write.contents l.writer) l.buffer
-    (progress_of l.recorder.shown (view_store g.S.Reassembly.limits g.S.Reassembly.parts l.recorder.telling.store)) l.intake
+    (progress_of l.recorder.shown (view_store g.S.Reassembly.limits g.S.Reassembly.parts l.recorder.telling.store)) (record { intake = l.intake; learner = l.recorder.learner })
     × (l.recorder.shown.datagrams ≤ l.intake.frames)
     × (l.recorder.lines ≡ [])
     × (l.recorder.telling.values.types.now ≡ l.asked.types.now)

@@ -10,6 +10,9 @@ returns-in_err-buffer-clause-begun g c = OnErr-any c.from_residual.result (begin
 pub returns-in_err-new-clause-begun : goal.returns-in_err-new-clause-begun
 returns-in_err-new-clause-begun g c = OnErr-any c.from_residual-in_err-new.result (begins_nothing (view_asked c.args.asked.now) (map g.R.Read.remaining c.args.sources.now) (g.W.Write.contents c.args.writer.now))
 
+pub returns-in_err-learner_of-clause-begun : goal.returns-in_err-learner_of-clause-begun
+returns-in_err-learner_of-clause-begun g c = OnErr-any c.from_residual-in_err-learner_of.result (begins_nothing (view_asked c.args.asked.now) (map g.R.Read.remaining c.args.sources.now) (g.W.Write.contents c.args.writer.now))
+
 pub returns-in_err-store_for-clause-begun : goal.returns-in_err-store_for-clause-begun
 returns-in_err-store_for-clause-begun g c = OnErr-any c.from_residual-in_err-store_for.result (begins_nothing (view_asked c.args.asked.now) (map g.R.Read.remaining c.args.sources.now) (g.W.Write.contents c.args.writer.now))
 

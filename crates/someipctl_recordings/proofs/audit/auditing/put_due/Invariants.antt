@@ -1,11 +1,12 @@
 use Rattle.std.proofs.Common.{◌-◌, ◌^◌}
+use Rattle.someipctl_recordings.specs.audit.AskedAudits.{view_asked}
 use Rattle.someipctl_recordings.proofs.about_audit.StepLemmas.{IsDraining}
 use Rattle.someipctl_recordings.proofs.audit.auditing.put_due.Given as goal
 
 -- the findings that can still be counted
 abbrev pub decreases-loop-told : goal.decreases-loop-told
-decreases-loop-told g l = 2 ^ 64 - l.tally.findings
+decreases-loop-told g l = 2 ^ 64 - l.tally.reports
 
 -- some of what fell due was printed
 abbrev pub invariant-loop-told : goal.invariant-loop-told
-invariant-loop-told g l = IsDraining l.now l.initial.audit l.audit l.initial.tally l.tally (g.W.Write.contents l.initial.writer) l.initial.buffer (g.W.Write.contents l.writer) l.buffer
+invariant-loop-told g l = IsDraining (view_asked l.asked) l.now l.initial.audit l.audit l.initial.tally l.tally (g.W.Write.contents l.initial.writer) l.initial.buffer (g.W.Write.contents l.writer) l.buffer

@@ -4,10 +4,10 @@ use Rattle.std.proofs.lemmas.Result.{on_err_weaker}
 use Rattle.std.proofs.lemmas.List.{length-set}
 use Rattle.recording.specs.View.{view_record}
 use Rattle.someipctl_io.proofs.SendingLemmas.{OnErr-any}
-use Rattle.someipctl_recordings.specs.audit.AuditResult.{view_asked}
+use Rattle.someipctl_recordings.specs.audit.AskedAudits.{view_asked}
 use Rattle.someipctl_recordings.proofs.ComingLemmas.{comes_taken, comes_empty}
 use Rattle.someipctl_recordings.proofs.FileLemmas.{comes_own, file_less, is_step, past_map, record_less, within_map}
-use Rattle.someipctl_recordings.proofs.about_audit.RunLemmas.{audit_end_stops, audit_ends, audit_fault, audit_fault_stops, audited_begin, audited_next, audited_none, audited_record, if_ok_three, stops_before, stops_record}
+use Rattle.someipctl_recordings.proofs.about_audit.RunLemmas.{audit_end_stops, audit_ends, audit_fault, audit_fault_stops, audited_begin, audited_next, audited_none, audited_record, counts_now, if_ok_three, stops_before, stops_record, told_now}
 use Rattle.someipctl_recordings.proofs.audit.audits.put_audit.Goals as goal
 
 pub loop-file-init : goal.loop-file-init
@@ -30,7 +30,7 @@ returns-in-Fault-clause-puts g c =
     if_ok_three c.put_end.result _ _ _ _
     (λ shown end faulty left. audit_fault (view_asked c.args.asked.now) (map g.R.Read.remaining c.args.sources.now) (map g.R.Read.remaining c.loop-file.sources) c.loop-file.file c.loop-file.recording c.next_coming.new.recording (g.R.Read.remaining c.next_coming.new.source) _ _ _ _ c.loop-file.buffer c.next_coming.new.buffer _ c.loop-file.auditing.audit c.loop-file.gone c.loop-file.intake c.in-Fault.fault shown
     is (within_map g.R.Read.remaining c.loop-file.sources c.loop-file.file c.loop-file-test.true) comes none c.in_ok-coming.ensures.sends end faulty (left ∙ c.left_out.ensures))
-    (c.put_end.ensures.puts is.reports is.looked is.counts) c.put_end.ensures.fault c.put_end.ensures.left_out
+    (c.put_end.ensures.puts (told_now (view_asked c.args.asked.now) is.done is.reports) is.looked (counts_now (view_asked c.args.asked.now) _ _ _ _ _ _ _ _ _ _ is)) c.put_end.ensures.fault c.put_end.ensures.left_out
 
 pub returns-in-Fault-clause-begun : goal.returns-in-Fault-clause-begun
 returns-in-Fault-clause-begun g c =
@@ -39,7 +39,7 @@ returns-in-Fault-clause-begun g c =
     let none = rw c.in-Fault.is at c.in_ok-coming.ensures.ended in
     on_err_weaker c.put_end.result
     (audit_fault_stops (view_asked c.args.asked.now) (map g.R.Read.remaining c.args.sources.now) (map g.R.Read.remaining c.loop-file.sources) c.loop-file.file c.loop-file.recording c.next_coming.new.recording (g.R.Read.remaining c.next_coming.new.source) _ _ _ _ c.loop-file.buffer c.next_coming.new.buffer c.loop-file.auditing.audit c.loop-file.gone c.loop-file.intake c.in-Fault.fault is (within_map g.R.Read.remaining c.loop-file.sources c.loop-file.file c.loop-file-test.true) comes none c.in_ok-coming.ensures.sends)
-    (c.put_end.ensures.stops is.reports is.looked is.counts)
+    (c.put_end.ensures.stops (told_now (view_asked c.args.asked.now) is.done is.reports) is.looked (counts_now (view_asked c.args.asked.now) _ _ _ _ _ _ _ _ _ _ is))
 
 pub loop-file-smaller-in-End : goal.loop-file-smaller-in-End
 loop-file-smaller-in-End g c = file_less (length c.loop-file.sources) (length (set c.loop-file.sources c.loop-file.file c.next_coming.new.source)) c.loop-file.file c.loop-file.recording.place c.new-recording-in-End.result.place (length-set c.loop-file.sources c.loop-file.file c.next_coming.new.source) c.loop-file-test.true
@@ -95,11 +95,11 @@ returns-clause-puts g c =
     if_ok_three c.put_end-2.result _ _ _ _
     (λ shown end faulty left. audit_ends (view_asked c.args.asked.now) (map g.R.Read.remaining c.args.sources.now) (map g.R.Read.remaining c.loop-file.sources) c.loop-file.file c.loop-file.recording _ _ _ c.loop-file.buffer _ c.loop-file.auditing.audit c.loop-file.gone c.loop-file.intake shown
     is (past_map g.R.Read.remaining c.loop-file.sources c.loop-file.file c.loop-file-test.false) end faulty (left ∙ c.left_out-2.ensures))
-    (c.put_end-2.ensures.puts is.reports is.looked is.counts) c.put_end-2.ensures.fault c.put_end-2.ensures.left_out
+    (c.put_end-2.ensures.puts (told_now (view_asked c.args.asked.now) is.done is.reports) is.looked (counts_now (view_asked c.args.asked.now) _ _ _ _ _ _ _ _ _ _ is)) c.put_end-2.ensures.fault c.put_end-2.ensures.left_out
 
 pub returns-clause-begun : goal.returns-clause-begun
 returns-clause-begun g c =
     let is = c.loop-file.invariant.0 in
     on_err_weaker c.put_end-2.result
     (audit_end_stops (view_asked c.args.asked.now) (map g.R.Read.remaining c.args.sources.now) (map g.R.Read.remaining c.loop-file.sources) c.loop-file.file c.loop-file.recording _ _ _ c.loop-file.buffer c.loop-file.auditing.audit c.loop-file.gone c.loop-file.intake is (past_map g.R.Read.remaining c.loop-file.sources c.loop-file.file c.loop-file-test.false))
-    (c.put_end-2.ensures.stops is.reports is.looked is.counts)
+    (c.put_end-2.ensures.stops (told_now (view_asked c.args.asked.now) is.done is.reports) is.looked (counts_now (view_asked c.args.asked.now) _ _ _ _ _ _ _ _ _ _ is))

@@ -1,5 +1,5 @@
 use Rattle.std.proofs.Common.{◌≤◌, ◌+◌, ◌-◌, ◌*◌, ◌^◌, length, map}
-use Rattle.someipctl_recordings.specs.audit.AuditResult.{view_asked}
+use Rattle.someipctl_recordings.specs.audit.AskedAudits.{view_asked}
 use Rattle.someipctl_recordings.proofs.about_audit.RunLemmas.{IsAudited}
 use Rattle.someipctl_recordings.proofs.audit.audits.put_audit.Given as goal
 

@@ -3,10 +3,10 @@ use Rattle.std.specs.Option.{is_some}
 use Rattle.std.proofs.lemmas.Result.{on_ok_weaker}
 use Rattle.someip_audit.specs.Audits.{AuditState}
 use Rattle.someipctl_io.proofs.SendingLemmas.{OnErr-any}
-use Rattle.someipctl_recordings.specs.audit.AuditResult.{view_asked}
+use Rattle.someipctl_recordings.specs.audit.AskedAudits.{AskedAudit, view_asked}
 use Rattle.someipctl_recordings.specs.audit.Scenes.{view_seen}
 use Rattle.someip_audit.specs.Audits.{Seen}
-use Rattle.someipctl_recordings.specs.audit.SeenIn.{AskedAudit, audit_at}
+use Rattle.someipctl_recordings.specs.audit.SeenIn.{audit_at}
 use Rattle.someipctl_recordings.proofs.about_audit.RunLemmas.{begin_stops}
 use Rattle.someipctl_recordings.proofs.audit.audits.put_next.Goals.{then-is_none+in_ok-begin_with, else-is_none}
 use Rattle.someipctl_recordings.proofs.audit.audits.put_next.Goals as goal

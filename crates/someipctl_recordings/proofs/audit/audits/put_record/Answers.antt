@@ -6,7 +6,7 @@ use Rattle.recording_packets.specs.View.{view_arrival}
 use Rattle.recording_packets.specs.Intake.{arrived}
 use Rattle.recording_packets.proofs.IntakeLemmas.{frames-more}
 use Rattle.someipctl_io.proofs.SendingLemmas.{OnErr-any, Sends-nil}
-use Rattle.someipctl_recordings.specs.audit.AuditResult.{view_asked}
+use Rattle.someipctl_recordings.specs.audit.AskedAudits.{view_asked}
 use Rattle.someipctl_recordings.specs.audit.Runs.{PutsRecord, StopsRecord}
 use Rattle.someipctl_recordings.proofs.about_audit.RunLemmas.{record_stops}
 use Rattle.someipctl_recordings.proofs.audit.audits.put_record.Goals as goal
@@ -14,7 +14,7 @@ use Rattle.someipctl_recordings.proofs.audit.audits.put_record.Goals as goal
 pub returns-in_err-taken-clause-stops : goal.returns-in_err-taken-clause-stops
 returns-in_err-taken-clause-stops g c =
     OnErr-any c.from_residual.result
-    (record_stops (view_asked c.args.asked.now) (arrived (view_asked c.args.asked.now).packets c.args.intake.now (view_record c.args.found.now)) c.args.auditing.now.audit c.args.gone.now (g.W.Write.contents c.args.writer.now) c.args.buffer.now)
+    (record_stops (view_asked c.args.asked.now) (arrived (view_asked c.args.asked.now).wanted.packets c.args.intake.now (view_record c.args.found.now)) c.args.auditing.now.audit c.args.gone.now (g.W.Write.contents c.args.writer.now) c.args.buffer.now)
 
 pub returns-in-None-clause-puts : goal.returns-in-None-clause-puts
 returns-in-None-clause-puts g c =
@@ -24,12 +24,12 @@ returns-in-None-clause-puts g c =
 
 pub returns-in-None-clause-few : goal.returns-in-None-clause-few
 returns-in-None-clause-few g c =
-    let more = ap (λ s. s.frames) c.in_ok-taken.ensures.after ∙ frames-more (view_asked c.args.asked.now).packets c.args.intake.now (view_record c.args.found.now) in
+    let more = ap (λ s. s.frames) c.in_ok-taken.ensures.after ∙ frames-more (view_asked c.args.asked.now).wanted.packets c.args.intake.now (view_record c.args.found.now) in
     omega (arith, more, c.requires.few)
 
 pub put_datagram-requires : goal.put_datagram-requires
 put_datagram-requires g c =
-    let more = ap (λ s. s.frames) c.in_ok-taken.ensures.after ∙ frames-more (view_asked c.args.asked.now).packets c.args.intake.now (view_record c.args.found.now) in
+    let more = ap (λ s. s.frames) c.in_ok-taken.ensures.after ∙ frames-more (view_asked c.args.asked.now).wanted.packets c.args.intake.now (view_record c.args.found.now) in
     omega (arith, more, c.requires.few, c.in_ok-taken.ensures.bounded)
 
 pub returns-in-Some-clause-puts : goal.returns-in-Some-clause-puts
@@ -41,7 +41,7 @@ returns-in-Some-clause-puts g c =
 
 pub returns-in-Some-clause-few : goal.returns-in-Some-clause-few
 returns-in-Some-clause-few g c =
-    let more = ap (λ s. s.frames) c.in_ok-taken.ensures.after ∙ frames-more (view_asked c.args.asked.now).packets c.args.intake.now (view_record c.args.found.now) in
+    let more = ap (λ s. s.frames) c.in_ok-taken.ensures.after ∙ frames-more (view_asked c.args.asked.now).wanted.packets c.args.intake.now (view_record c.args.found.now) in
     on_ok_weaker c.put_datagram.result (λ puts. omega (arith, puts.number, more, c.requires.few)) c.put_datagram.ensures.puts
 
 pub returns-in-Some-clause-stops : goal.returns-in-Some-clause-stops

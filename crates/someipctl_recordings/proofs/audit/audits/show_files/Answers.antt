@@ -1,6 +1,6 @@
 use Rattle.std.proofs.Common.{map}
 use Rattle.someipctl_io.proofs.SendingLemmas.{OnErr-any}
-use Rattle.someipctl_recordings.specs.audit.AuditResult.{view_asked}
+use Rattle.someipctl_recordings.specs.audit.AskedAudits.{view_asked}
 use Rattle.someipctl_recordings.proofs.about_audit.RunLemmas.{begins_nothing, puts_begun, puts_shown}
 use Rattle.someipctl_recordings.proofs.audit.audits.show_files.Goals as goal
 

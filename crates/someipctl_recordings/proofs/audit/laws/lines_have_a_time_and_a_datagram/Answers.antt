@@ -8,7 +8,9 @@ unfolding digits encode_with
 returns c = record {
   found = refl;
   without_time = refl;
+  frame = refl;
   unanswered = refl;
+  frame_of_call = refl;
   missing = refl;
   expired = refl;
   subscribe = refl;

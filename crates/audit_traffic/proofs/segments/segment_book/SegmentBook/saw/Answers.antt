@@ -22,6 +22,6 @@ invariant_of-self-else-is_err g c =
       c.tell_piece-told.ensures.moments,
       after_agrees_as (g.S.Reassembly.limits c.self.inside.store) (g.S.Reassembly.limits c.tell_piece-told.new.store) c.self.inside.latest c.later-self-inside.result
           c.self.inside.timeout_ms (g.S.Reassembly.parts c.self.inside.store) (g.S.Reassembly.parts c.tell_piece-told.new.store) (map_of message_cmp c.self.inside.waiting)
-          (map_of message_cmp c.tell_piece-told.new.waiting) _ c.args.k c.self.invariant.0 c.tell_piece-told.ensures.limits no_earlier c.self.invariant.2
+          (map_of message_cmp c.tell_piece-told.new.waiting) _ c.args.numbers c.self.invariant.0 c.tell_piece-told.ensures.limits no_earlier c.self.invariant.2
           (where_ok c.tell_piece-told.result well c.tell_piece-told.ensures.parts) (where_ok c.tell_piece-told.result well c.tell_piece-told.ensures.waiting),
     )

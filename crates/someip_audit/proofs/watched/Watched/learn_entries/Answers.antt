@@ -1,0 +1,13 @@
+use Rattle.std.proofs.Common.{◌+◌, ap, map, drop, sym, ◌∙◌}
+use Rattle.std.proofs.lemmas.List.{drop_all}
+use Rattle.sd_wire.specs.contents.Values.{view_read}
+use Rattle.someip_audit.specs.Learning.{learnt_of}
+use Rattle.someip_audit.proofs.FrontLemmas.{next_left}
+use Rattle.someip_audit.proofs.watched.Watched.learn_entries.Goals as goal
+
+pub loop-entry-preserved : goal.loop-entry-preserved
+loop-entry-preserved c =
+    let left = next_left c.args.entries.now c.loop-entry.entry-index c.entry-item.result c.loop-entry-test.true c.entry-item.is in
+    ap (learnt_of (map view_read (drop (c.loop-entry.entry-index + 1) c.args.entries.now))) c.in_ok-learn_entry.ensures
+    ∙ sym (ap (λ es. learnt_of (map view_read es) c.loop-entry.self) left)
+    ∙ c.loop-entry.invariant
