@@ -1,5 +1,6 @@
 //! What findings are about, and which of them are told.
-ghost use Rattle.std.specs.Prelude.{◌≡◌, Option, option_map};
+ghost use Rattle.std.specs.Prelude.{◌≡◌, option_map};
+ghost use Rattle.std.specs.List.{list_any};
 ghost use Rattle.someipctl_recordings.specs.Wanted.{view_wanted};
 ghost use Rattle.someipctl_recordings.specs.audit.Subjects.{about_call, about_event, about_nothing, about_service};
 ghost use Rattle.someipctl_recordings.specs.audit.Subjects.{is_named, is_of_addresses, is_of_client, is_of_services, is_told};
@@ -142,9 +143,15 @@ fn is_of_services(services: Option<&[AskedService]>, subject: &Subject) -> bool
     ensures { result ≡ is_of_services (option_map (λ s. s.now) services.entry) subject.now }
 {
     match services {
-        Some(services) => services.iter().any(|asked| names_service(subject, asked)),
+        Some(services) => names_one_of(services, subject),
         None => true,
     }
+}
+
+fn names_one_of(services: &[AskedService], subject: &Subject) -> bool
+    ensures { result ≡ list_any (names_service subject.now) services.now }
+{
+    services.iter().any(|asked| names_service(subject, asked))
 }
 
 fn names_service(subject: &Subject, asked: &AskedService) -> bool
