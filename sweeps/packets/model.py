@@ -108,7 +108,7 @@ def datagrams(packets, options, counts):
         if "vlan" in options and not set(packet.vlans) & set(options["vlan"]):
             continue
         if packet.time is not None:
-            clock = max(clock, packet.time)
+            clock = max(clock, min(packet.time, 2**64 - 1))
         if packet.link is None:
             counts["of another link type"] += 1
             continue
@@ -142,8 +142,22 @@ def datagrams(packets, options, counts):
     counts["fragments that differ"] += parts.differ
 
 
-def header_of(data):
-    return struct.unpack(">HHIHHBBBB", data[:16]) if len(data) >= 16 else None
+def headers_of(data):
+    """The headers of the messages that stand whole before the first fault."""
+    headers, place = [], 0
+    while len(data) >= place + 16:
+        header = struct.unpack(">HHIHHBBBB", data[place:place + 16])
+        end = place + 8 + header[2]
+        if header[2] < 8 or header[5] != 1 or header[7] & ~0x20 not in TYPES or len(data) < end:
+            break
+        headers.append(header)
+        place = end
+    return headers
+
+
+def is_asked(options, header):
+    """Whether a message has the service and the client that are asked for."""
+    return options.get("service", header[0]) == header[0] and options.get("client", header[3]) == header[3]
 
 
 def is_wanted(options, time, source, destination, data):
@@ -155,12 +169,8 @@ def is_wanted(options, time, source, destination, data):
         return False
     if "until" in options and (time is None or time >= options["until"]):
         return False
-    header = header_of(data)
-    if "service" in options and (header is None or header[0] != options["service"]):
-        return False
-    if "client" in options and (header is None or header[3] != options["client"]):
-        return False
-    return True
+    is_any = "service" not in options and "client" not in options
+    return is_any or any(is_asked(options, header) for header in headers_of(data))
 
 
 def time_text(time):
@@ -175,7 +185,7 @@ def line_of(number, data):
     """The line of the drawn datagrams, which are one message each, perhaps cut, or empty."""
     if not data:
         return f"{number} empty"
-    service, method, length, client, session, _, interface, kind, code = header_of(data)
+    service, method, length, client, session, _, interface, kind, code = struct.unpack(">HHIHHBBBB", data[:16])
     if len(data) < 8 + length:
         return f"{number} fault Truncated at {len(data)}"
     payload = data[16:].hex() or "-"

@@ -2,7 +2,8 @@
 `audit --ports 30509 -`.
 
 `edges`, in seconds: a recording that comes a byte at a time, one whose reads are all interrupted once, both together;
-65,536 interfaces of a section and one more; a packet and a block of 16 MiB, and of one byte or word more.
+65,536 interfaces of a section and one more; a packet and a block of 16 MiB, and of one byte or word more; a copy behind
+16 MiB of other packets, which are kept to compare, and behind one byte more; fragments of 64 packets, and of 65.
 
 `scale`: 5 GiB, and 3 million records. Each recording is made as it is read, and ends with one datagram, whose line has
 to be there: so all of it was read.
@@ -17,10 +18,12 @@ import subprocess
 import sys
 import tempfile
 import threading
+from typing import Callable, NamedTuple
 
 HELD = 16 * 1024 * 1024
 INTERFACES = 65536
-LINE = "1 message 1111.0001 length 8 client 0000 session 0001 interface 01 type REQUEST_NO_RETURN code 00 payload -\n"
+OTHERS = 4096
+LINE = "{} message 1111.0001 length 8 client 0000 session 0001 interface 01 type REQUEST_NO_RETURN code 00 payload -\n"
 AUDITED = "audited {0} datagrams, {0} messages, 0 findings\n"
 
 
@@ -31,14 +34,21 @@ def checksum(data):
     return ~((total & 0xFFFF) + (total >> 16)) & 0xFFFF
 
 
-def datagram():
-    """An Ethernet packet with a message that waits for no answer."""
-    message = struct.pack(">HHIHHBBBB", 0x1111, 1, 8, 0, 1, 1, 1, 1, 0)
-    udp = struct.pack(">HHHH", 40001, 30509, 8 + len(message), 0) + message
-    head = struct.pack(">BBHHHBBH", 0x45, 0, 20 + len(udp), 0, 0, 64, 17, 0)
+MESSAGE = struct.pack(">HHIHHBBBB", 0x1111, 1, 8, 0, 1, 1, 1, 1, 0)
+UDP = struct.pack(">HHHH", 40001, 30509, 8 + len(MESSAGE), 0) + MESSAGE
+
+
+def ipv4(payload, identification=0, fragment=0, protocol=17):
+    """An Ethernet packet with an IPv4 packet."""
+    head = struct.pack(">BBHHHBBH", 0x45, 0, 20 + len(payload), identification, fragment, 64, protocol, 0)
     ends = bytes((192, 168, 0, 2, 192, 168, 0, 1))
     head = head[:10] + struct.pack(">H", checksum(head[:10] + b"\0\0" + ends)) + ends
-    return bytes(12) + b"\x08\x00" + head + udp
+    return bytes(12) + b"\x08\x00" + head + payload
+
+
+def datagram():
+    """An Ethernet packet with a message that waits for no answer."""
+    return ipv4(UDP)
 
 
 def other(length):
@@ -88,6 +98,21 @@ def long_block(words):
     return [section(), INTERFACE, enhanced(other(HELD - 32 + 4 * words)), enhanced(datagram())]
 
 
+def copy_behind(more):
+    """A datagram, packets of TCP, and the datagram again. The first one and these count 16 MiB and so many bytes more:
+    256 for each, and its payload."""
+    left = HELD - (256 + len(UDP)) - (OTHERS - 1) * 4096
+    others = [packet(ipv4(bytes(4096 - 256), number, protocol=6)) for number in range(OTHERS - 1)]
+    last = packet(ipv4(bytes(left - 256 + more), OTHERS, protocol=6))
+    return [classic(), packet(datagram()), *others, last, packet(datagram())]
+
+
+def fragments(count):
+    """The datagram in two fragments so many times, the first ones before the others, which come in turn."""
+    first = [packet(ipv4(UDP[:8], number, 0x2000)) for number in range(count)]
+    return [classic(), *first, *(packet(ipv4(UDP[8:], number, 1)) for number in reversed(range(count)))]
+
+
 def many(count, length):
     """A recording of so many packets of this length, and the datagram, piece by piece."""
     yield classic()
@@ -107,30 +132,47 @@ def left_out(count):
     return f"recording: left out {count} not IPv4\n"
 
 
+class Case(NamedTuple):
+    """What is tried: its name, kilobytes of memory, what is set, the recording, what is told on standard error, how
+    often the datagram is reached, and words of the call."""
+    name: str
+    kilobytes: int
+    variables: dict
+    pieces: Callable
+    told: str
+    reached: int
+    words: tuple = ()
+
+
 def edges(odd):
-    """What is tried: its name, kilobytes of memory, what is set, the recording, what is told on standard error, and
-    whether the datagram is reached."""
     preload = {"LD_PRELOAD": odd}
     one = preload | {"READ_MOST": "1"}
     interrupted = preload | {"READ_INTERRUPTED": "1"}
     behind = len(section()) + INTERFACES * len(INTERFACE)
     behind_one = len(section()) + len(INTERFACE)
-    yield "a byte at a time", 40_000, one, few_packets, left_out(3), True
-    yield "each read interrupted", 40_000, interrupted, few_packets, left_out(3), True
-    yield "each byte interrupted", 40_000, one | interrupted, few_packets, left_out(3), True
-    yield "65536 interfaces", 60_000, {}, lambda: interfaces(INTERFACES), "", True
-    yield ("65537 interfaces", 60_000, {}, lambda: interfaces(INTERFACES + 1),
-           f"recording: TooManyInterfaces at {behind}\n", False)
-    yield "a packet of 16 MiB", 120_000, {}, lambda: long_packet(0), left_out(1), True
-    yield "a packet of one byte more", 120_000, {}, lambda: long_packet(1), "recording: BlockTooLong at 24\n", False
-    yield "a block of 16 MiB", 120_000, {}, lambda: long_block(0), left_out(1), True
-    yield ("a block of one word more", 120_000, {}, lambda: long_block(1),
-           f"recording: BlockTooLong at {behind_one}\n", False)
+    yield Case("a byte at a time", 40_000, one, few_packets, left_out(3), 1)
+    yield Case("each read interrupted", 40_000, interrupted, few_packets, left_out(3), 1)
+    yield Case("each byte interrupted", 40_000, one | interrupted, few_packets, left_out(3), 1)
+    yield Case("65536 interfaces", 60_000, {}, lambda: interfaces(INTERFACES), "", 1)
+    yield Case("65537 interfaces", 60_000, {}, lambda: interfaces(INTERFACES + 1),
+               f"recording: TooManyInterfaces at {behind}\n", 0)
+    yield Case("a packet of 16 MiB", 120_000, {}, lambda: long_packet(0), left_out(1), 1)
+    yield Case("a packet of one byte more", 120_000, {}, lambda: long_packet(1), "recording: BlockTooLong at 24\n", 0)
+    yield Case("a block of 16 MiB", 120_000, {}, lambda: long_block(0), left_out(1), 1)
+    yield Case("a block of one word more", 120_000, {}, lambda: long_block(1),
+               f"recording: BlockTooLong at {behind_one}\n", 0)
+    dedup = ("--dedup", "60000")
+    told = f"recording: left out {OTHERS} not UDP"
+    yield Case("a copy behind 16 MiB", 120_000, {}, lambda: copy_behind(0), f"{told}, 1 copies\n", 1, dedup)
+    yield Case("a copy behind one byte more", 120_000, {}, lambda: copy_behind(1), f"{told}\n", 2, dedup)
+    yield Case("fragments of 64 packets", 40_000, {}, lambda: fragments(64), "", 64)
+    yield Case("fragments of 65 packets", 40_000, {}, lambda: fragments(65),
+               "recording: left out 2 fragments without the rest\n", 64)
 
 
 def scale(odd):
-    yield "5 GiB", 40_000, {}, lambda: many(81920, 65520), left_out(81920), True
-    yield "3 million records", 40_000, {}, lambda: many(3_000_000, 14), left_out(3_000_000), True
+    yield Case("5 GiB", 40_000, {}, lambda: many(81920, 65520), left_out(81920), 1)
+    yield Case("3 million records", 40_000, {}, lambda: many(3_000_000, 14), left_out(3_000_000), 1)
 
 
 # ---- Runs
@@ -166,15 +208,15 @@ def main():
         odd = os.path.join(room, "odd_reads.so")
         source = os.path.join(os.path.dirname(os.path.abspath(__file__)), "odd_reads.c")
         subprocess.run(["cc", "-shared", "-fPIC", "-O1", source, "-o", odd, "-ldl"], check=True)
-        for name, kilobytes, variables, pieces, told, reached in {"edges": edges, "scale": scale}[part](odd):
-            for words in (["recording", "-"], ["audit", "--ports", "30509", "-"]):
-                text = (LINE if reached else "") if words[0] == "recording" else AUDITED.format(int(reached))
-                status = 0 if reached else 1
-                came = run(program, words, kilobytes, variables, pieces())
+        for case in {"edges": edges, "scale": scale}[part](odd):
+            lines = "".join(LINE.format(number + 1) for number in range(case.reached))
+            for words, text in ((["recording"], lines), (["audit", "--ports", "30509"], AUDITED.format(case.reached))):
+                status = 0 if case.reached else 1
+                came = run(program, [*words, *case.words, "-"], case.kilobytes, case.variables, case.pieces())
                 cases += 1
-                if came != (text, told, status):
+                if came != (text, case.told, status):
                     findings += 1
-                    print(f"{part}: {words[0]}, {name}: expected {(text, told, status)}, got {came}")
+                    print(f"{part}: {words[0]}, {case.name}: expected {(text, case.told, status)}, got {came}")
     if findings == 0:
         print(f"{part}: {cases} cases, no finding")
     return findings > 0
