@@ -60,7 +60,7 @@ pub fn calls_by_example()
     ensures files { requested (line (codes "recording" ∷ codes "b" ∷ codes "--frames" ∷ codes "--vlan" ∷ codes "7"
         ∷ codes "--from" ∷ codes "5" ∷ codes "a" ∷ codes "b" ∷ [])) ≡ Some (recording_request
         (codes "b" ∷ codes "a" ∷ codes "b" ∷ []) (recording_options_of (packet_options_of None (Some (codes "7")) None)
-        (choice_options_of None None (Some (codes "5")) None) None (Some (codes "true")) None None None None None None
+        (choice_options_of None None (Some (codes "5")) None None) None (Some (codes "true")) None None None None None None
         None)) }
 
     ensures chart { requested (line (codes "chart" ∷ codes "x" ∷ codes "y" ∷ []))
@@ -68,6 +68,10 @@ pub fn calls_by_example()
 
     ensures audit { requested (line (codes "audit" ∷ codes "x" ∷ []))
         ≡ Some (audit_request (codes "x" ∷ []) (audit_options_of no_packets no_choice None None None None None)) }
+    ensures audit_choice { requested (line (codes "audit" ∷ codes "x" ∷ codes "--frames" ∷ codes "--client" ∷ codes "0102"
+        ∷ codes "--learned" ∷ codes "--service" ∷ codes "1111" ∷ [])) ≡ Some (audit_request (codes "x" ∷ [])
+        (audit_options_of no_packets (choice_options_of None (Some (codes "0102")) None None (Some (codes "true"))) None
+        (Some (codes "true")) (Some (codes "1111")) None None)) }
     ensures audit_options { requested (line (codes "audit" ∷ codes "--ports" ∷ codes "1,2" ∷ codes "--answer-ms" ∷ codes "5"
         ∷ codes "--settle-ms" ∷ codes "0" ∷ codes "x" ∷ [])) ≡ Some (audit_request (codes "x" ∷ [])
         (audit_options_of no_packets no_choice (Some (codes "1,2")) None None (Some (codes "5")) (Some (codes "0")))) }

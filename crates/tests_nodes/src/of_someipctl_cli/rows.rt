@@ -84,6 +84,7 @@ const NO_OPTIONS: RecordingOptions<'static> = RecordingOptions {
         client: None,
         from: None,
         until: None,
+        learned: false,
     },
     ports: None,
     frames: false,
@@ -144,7 +145,7 @@ pub const RECORDINGS: &[RecordingRow] = &[
         },
     ),
     (
-        "someipctl|recording|--address|1.2.3.4|--client=0101|--from|1|--until|2.5|x",
+        "someipctl|recording|--address|1.2.3.4|--client=0101|--learned|--from|1|--until|2.5|x",
         &["x"],
         RecordingOptions {
             choice: ChoiceOptions {
@@ -152,6 +153,7 @@ pub const RECORDINGS: &[RecordingRow] = &[
                 client: Some("0101"),
                 from: Some("1"),
                 until: Some("2.5"),
+                learned: true,
             },
             ..NO_OPTIONS
         },
