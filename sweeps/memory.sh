@@ -36,9 +36,10 @@
 # `bare` they are left out, and else all is as with `again`, and the script finds as many growths without them as with
 # them.
 #
-# The program itself runs `show`, without a types file and with one, `recording --whole --types`, `audit`, `payload`,
-# `vectors` and `run` so. Each refused growth, also of the command line, comes to exit status 3, `out of memory` on
-# standard error, and a beginning of the expected text on standard output.
+# The program itself runs `show`, without a types file and with one, `recording --whole --types`, `audit`, both of these
+# over copies, fragments and several files, `payload`, `vectors` and `run` so. Each refused growth, also of the command
+# line, comes to exit status 3, `out of memory` on standard error, and a beginning of the expected text on standard
+# output.
 #
 # The gate runs each sweep once with nothing refused: `memory all again`, before the words of the other sweeps.
 #
@@ -162,6 +163,9 @@ sweep_memory() {
     sweep_program show --types "$examples/types.toml" "$examples/speed.txt"
     sweep_program recording --whole --types "$examples/types.toml" "$examples/route.pcap"
     sweep_program audit --ports 30509 "$examples/route.pcap"
+    sweep_program recording --dedup 5 --frames --endpoints --interface 0,1 --address 192.168.0.1,224.0.0.251 \
+        --service 1234,ffff "$examples/taps/two.pcapng" "$examples/one.pcap"
+    sweep_program audit --dedup 5 --vlan 5 "$examples/taps/two.pcapng" "$examples/one.pcap"
     sweep_program payload 'array/8<2,array/8<2,u8>>' 050201020103
     sweep_program vectors "$examples/vectors/two.txt"
     sweep_program run "$examples/runs/two.toml" "$examples/runs/two.txt"

@@ -142,17 +142,32 @@ def datagrams(packets, options, counts):
     counts["fragments that differ"] += parts.differ
 
 
-def headers_of(data):
-    """The headers of the messages that stand whole before the first fault."""
-    headers, place = [], 0
-    while len(data) >= place + 16:
+def messages_of(data):
+    """The messages that stand whole in a datagram, `(HEADER, PAYLOAD)`, and the fault behind them, or None."""
+    messages, place = [], 0
+    while place < len(data):
+        fault = fault_in(data, place)
+        if fault:
+            return messages, fault
         header = struct.unpack(">HHIHHBBBB", data[place:place + 16])
         end = place + 8 + header[2]
-        if header[2] < 8 or header[5] != 1 or header[7] & ~0x20 not in TYPES or len(data) < end:
-            break
-        headers.append(header)
+        messages.append((header, data[place + 16:end]))
         place = end
-    return headers
+    return messages, None
+
+
+def fault_in(data, place):
+    """Why no message stands at a place of a datagram, or None."""
+    if len(data) < place + 16:
+        return f"Truncated at {len(data)}"
+    _, _, length, _, _, protocol, _, kind, _ = struct.unpack(">HHIHHBBBB", data[place:place + 16])
+    if length < 8:
+        return f"LengthTooSmall at {place + 4}"
+    if protocol != 1:
+        return f"WrongProtocolVersion at {place + 12}"
+    if kind & ~0x20 not in TYPES:
+        return f"UnknownMessageType at {place + 14}"
+    return f"Truncated at {len(data)}" if len(data) < place + 8 + length else None
 
 
 def is_asked(options, header):
@@ -170,7 +185,7 @@ def is_wanted(options, time, source, destination, data):
     if "until" in options and (time is None or time >= options["until"]):
         return False
     is_any = "service" not in options and "client" not in options
-    return is_any or any(is_asked(options, header) for header in headers_of(data))
+    return is_any or any(is_asked(options, header) for header, _ in messages_of(data)[0])
 
 
 def time_text(time):
@@ -181,16 +196,16 @@ def endpoint_text(endpoint):
     return f"{'.'.join(map(str, endpoint[0]))}:{endpoint[1]}"
 
 
-def line_of(number, data):
-    """The line of the drawn datagrams, which are one message each, perhaps cut, or empty."""
+def lines_of(data):
+    """The lines of a datagram without its number, which here has neither segments nor Service Discovery."""
     if not data:
-        return f"{number} empty"
-    service, method, length, client, session, _, interface, kind, code = struct.unpack(">HHIHHBBBB", data[:16])
-    if len(data) < 8 + length:
-        return f"{number} fault Truncated at {len(data)}"
-    payload = data[16:].hex() or "-"
-    return (f"{number} message {service:04x}.{method:04x} length {length} client {client:04x} session {session:04x} "
-            f"interface {interface:02x} type {TYPES[kind]} code {code:02x} payload {payload}")
+        yield "empty"
+    messages, fault = messages_of(data)
+    for (service, method, length, client, session, _, interface, kind, code), payload in messages:
+        yield (f"message {service:04x}.{method:04x} length {length} client {client:04x} session {session:04x} "
+               f"interface {interface:02x} type {TYPES[kind]} code {code:02x} payload {payload.hex() or '-'}")
+    if fault:
+        yield f"fault {fault}"
 
 
 def shown(packets, options, files):
@@ -208,9 +223,9 @@ def shown(packets, options, files):
         head = f"#{frame} " if "frames" in options else ""
         if "endpoints" in options:
             head += f"{time_text(time)} {endpoint_text(source)} {endpoint_text(destination)} "
-        line = line_of(number, data)
-        faulty = faulty or " fault " in line
-        lines.append(head + line + "\n")
+        told = list(lines_of(data))
+        faulty = faulty or told[-1].startswith("fault ")
+        lines += [f"{head}{number} {line}\n" for line in told]
     left = [f"{count} {words}" for words, count in counts.items() if count]
     error = f"recording: left out {', '.join(left)}\n" if left else ""
     if cut:
