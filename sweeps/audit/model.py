@@ -5,7 +5,7 @@ lists of what was seen, and looks back over them for each finding; nothing is fo
 """
 import sys
 from collections import defaultdict
-from typing import NamedTuple, Optional
+from typing import Callable, NamedTuple, Optional
 
 import wire
 from parts import TIMEOUT, refusal, whole_payload
@@ -19,7 +19,11 @@ FIRST_GROUP = wire.address("224.0.0.0")
 
 
 class Rules(NamedTuple):
+    """What an audit goes by. `chosen` says of a finding whether it is asked for."""
     ports: Optional[list] = None
+    is_learning: bool = False
+    frames: Optional[list] = None
+    chosen: Callable = lambda finding: True
     answer: int = 2000
     settle: int = 10000
 
@@ -63,7 +67,7 @@ class Audit:
         self.rules = rules
         self.datagrams = datagrams_of(records)
         self.begin = self.datagrams[0].moment if self.datagrams else 0
-        self.looked = looked_at(self.datagrams, rules.ports)
+        self.looked = looked_at(self.datagrams, rules.ports, rules.is_learning)
         self.seen, self.messages = seen_in(self.looked)
         self.findings = []
         self.reboots = []
@@ -80,11 +84,16 @@ class Audit:
         self.find_gaps()
         self.findings.sort(key=lambda finding: finding.order)
 
+    def head(self, finding):
+        """The number of the packet of a finding, where the packets' numbers are told."""
+        return f"#{self.rules.frames[finding.datagram.number - 1]} " if self.rules.frames else ""
+
     def text(self):
-        lines = [finding.line() for finding in self.findings]
+        told = [finding for finding in self.findings if finding.kind == "full" or self.rules.chosen(finding)]
+        lines = [self.head(finding) + finding.line() for finding in told]
         lines.append(f"audited {len(self.looked)} datagrams, {self.messages} messages, {len(lines)} findings")
-        told = [finding.kind for finding in self.findings]
-        lines += [f"{kind} {told.count(kind)}" for kind in KINDS if kind in told]
+        kinds = [finding.kind for finding in told]
+        lines += [f"{kind} {kinds.count(kind)}" for kind in KINDS if kind in kinds]
         return "".join(f"{line}\n" for line in lines)
 
     def tell(self, seen, turn, kind, text=""):

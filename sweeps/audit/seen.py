@@ -64,13 +64,14 @@ def entries_in(datagram):
     return found
 
 
-def looked_at(datagrams, ports):
-    """The datagrams that are looked at."""
+def looked_at(datagrams, ports, is_learning=False):
+    """The datagrams that are looked at. Endpoints are learned where no ports are named, or where that is asked for."""
     found, named = [], set()
+    is_learning = is_learning or ports is None
     for datagram in datagrams:
         ends = (datagram.source, datagram.destination)
         at_port = any(port == wire.DISCOVERY_PORT or port in (ports or ()) for _, port in ends)
-        if at_port or ports is None and any(end in named for end in ends):
+        if at_port or is_learning and any(end in named for end in ends):
             found.append(datagram)
             named.update(entry.endpoint for entry in entries_in(datagram)
                          if entry.kind in (OFFER, SUBSCRIBE) and entry.ttl and entry.endpoint is not None)
@@ -92,6 +93,8 @@ def things_of_message(datagram, place, header, payload):
         return things_of_discovery(place, header, payload)
     if not header.kind & wire.TP:
         return [("message", (header, payload))]
+    if wire.DISCOVERY_PORT in (datagram.source[1], datagram.destination[1]):
+        return []
     if len(payload) < 4:
         return [("fault", ("NoHeader", place + 16))]
     number = int.from_bytes(payload[:4], "big")

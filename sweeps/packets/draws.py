@@ -22,6 +22,7 @@ def options(chance):
     ports = chance.sample(PORTS, chance.randint(1, 2))
     take("ports", ports, ",".join(map(str, ports)))
     addresses = chance.sample(ADDRESSES, chance.randint(1, 2))
+    take("learned", True, None, 0.1)
     take("address", addresses, ",".join(".".join(map(str, a)) for a in addresses))
     take("service", 0x1234, "1234")
     take("client", 0x0102, "0102")

@@ -176,7 +176,7 @@ def is_asked(options, header):
 
 
 def is_wanted(options, time, source, destination, data):
-    if "ports" in options and not {source[1], destination[1]} & set(options["ports"]):
+    if "ports" in options and "learned" not in options and not {source[1], destination[1]} & set(options["ports"]):
         return False
     if "address" in options and not {source[0], destination[0]} & set(options["address"]):
         return False
@@ -217,6 +217,10 @@ def shown(packets, options, files):
     number = 0
     faulty = False
     for frame, time, source, destination, data in datagrams(whole, options, counts):
+        # Nothing here is offered or subscribed, so no endpoint is learned.
+        ports = {30490, *options.get("ports", ())}
+        if "learned" in options and not {source[1], destination[1]} & ports:
+            continue
         if not is_wanted(options, time, source, destination, data):
             continue
         number += 1

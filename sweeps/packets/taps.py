@@ -16,6 +16,7 @@ that `model.py` tells of the packets that `reader.py` reads, with the lines that
 import importlib.util
 import os
 import random
+import re
 import struct
 import subprocess
 import sys
@@ -26,6 +27,7 @@ HERE = os.path.dirname(os.path.abspath(__file__))
 sys.path[:0] = [HERE, f"{HERE}/../audit"]
 import model
 import reader
+import seen
 import wire
 
 AUDIT = importlib.util.spec_from_file_location("audit_model", f"{HERE}/../audit/model.py")
@@ -55,6 +57,11 @@ ROWS = (
     ("audit", {}),
     ("audit --dedup 5", {"dedup": 5}),
     ("audit --interface 1", {"interface": [1]}),
+    ("recording --frames --learned", {"frames": True, "learned": True}),
+    ("recording --learned --ports 5353 --interface 0", {"learned": True, "ports": [5353], "interface": [0]}),
+    ("audit --frames --service 1234", {"frames": True, "service": 0x1234}),
+    ("audit --client 0102 --address 192.168.0.2 --until 1700000003", {"client": 0x0102, "address": [B], "until": BEGIN + 3 * SECOND}),
+    ("audit --frames --learned --ports 5353 --from 1700000001", {"frames": True, "learned": True, "ports": [5353], "from": BEGIN + SECOND}),
 )
 
 
@@ -94,16 +101,31 @@ class Case:
         """The status and the two texts that are to come."""
         if self.words.startswith("audit"):
             records = [wire.Record(time, *map(wire_endpoint, ends), data) for _, time, *ends, data in self.datagrams]
-            text = audit_model.Audit(records, audit_model.Rules()).text()
+            text = audit_model.Audit(records, self.rules()).text()
             is_told = not text.startswith("audited ")
         else:
             lines = list(self.lines(lines_of))
             text, is_told = "".join(lines), any(" fault " in line for line in lines)
         return int(is_told or self.fault is not None), text, self.error()
 
+    def rules(self):
+        """What the audit goes by."""
+        numbers = [frame for frame, *_ in self.datagrams] if "frames" in self.options else None
+        return audit_model.Rules(ports=self.options.get("ports"), is_learning="learned" in self.options, frames=numbers,
+                                 chosen=lambda finding: is_chosen(self.options, finding))
+
+    def looked_at(self):
+        """The datagrams that are looked at, where endpoints are learned."""
+        if "learned" not in self.options:
+            return self.datagrams
+        made = [seen.Datagram(at, time, 0, *map(wire_endpoint, ends), data)
+                for at, (_, time, *ends, data) in enumerate(self.datagrams)]
+        looked = seen.looked_at(made, self.options.get("ports"), True)
+        return [self.datagrams[datagram.number] for datagram in looked]
+
     def lines(self, lines_of):
         number = 0
-        for frame, time, source, destination, data in self.datagrams:
+        for frame, time, source, destination, data in self.looked_at():
             if not model.is_wanted(self.options, time, source, destination, data):
                 continue
             number += 1
@@ -126,6 +148,27 @@ class Case:
         error = ended.stderr.decode("utf8", "replace")
         self.came = ended.returncode, ended.stdout.decode("utf8", "replace"), error
         return self
+
+
+def is_chosen(options, finding):
+    """Whether the line of a finding names what is asked for."""
+    words = re.match(r"[a-z ]*?(?:[0-9]+ ms |[A-Za-z]+ )?([0-9a-f]{4})\.", finding.text)
+    client = re.search(r" client ([0-9a-f]{4})", finding.text)
+    if "service" in options and not (words and int(words[1], 16) == options["service"]):
+        return False
+    if "client" in options and not (client and int(client[1], 16) == options["client"]):
+        return False
+    ends = {wire_address(end) for end in (finding.datagram.source, finding.datagram.destination)}
+    if "address" in options and not ends & set(options["address"]):
+        return False
+    time = None if finding.time == "-" else int(finding.time.replace(".", ""))
+    if "from" in options and (time is None or time < options["from"]):
+        return False
+    return not ("until" in options and (time is None or time >= options["until"]))
+
+
+def wire_address(endpoint):
+    return endpoint[0].to_bytes(4, "big")
 
 
 def wire_endpoint(endpoint):
