@@ -16,19 +16,17 @@ use Rattle.someipctl_show.specs.TextKinds.{Joined, SendsOne}
 
 -- ---- what is asked for
 
+join_if : (b : Bool) (a : ArrivalValue) (all ds others : List ArrivalValue) → all ≡ ds ++ others → (if b then a ∷ all else all) ≡ (if b then a ∷ ds else ds) ++ others
+join_if true a all ds others is = ap (λ (l : List ArrivalValue). a ∷ l) is
+join_if false a all ds others is = is
+
 -- those of datagrams, and of others after them
 sought-append : (w : WantedValue) (learner : Option Watch) (ds others : List ArrivalValue)
     → sought_of w learner (ds ++ others) ≡ sought_of w learner ds ++ sought_of w (learned_from_all learner ds) others
 sought-append w learner [] others = refl
-sought-append w learner (a ∷ ds) others = go (is_sought w learner a)
-  where
-    rest : sought_of w (learned_from learner a) (ds ++ others) ≡ sought_of w (learned_from learner a) ds ++ sought_of w (learned_from_all (learned_from learner a) ds) others
-    rest = sought-append w (learned_from learner a) ds others
-
-    go : (b : Bool) → (if b then a ∷ sought_of w (learned_from learner a) (ds ++ others) else sought_of w (learned_from learner a) (ds ++ others))
-        ≡ (if b then a ∷ sought_of w (learned_from learner a) ds else sought_of w (learned_from learner a) ds) ++ sought_of w (learned_from_all (learned_from learner a) ds) others
-    go true = ap (λ (l : List ArrivalValue). a ∷ l) rest
-    go false = rest
+sought-append w learner (a ∷ ds) others =
+    join_if (is_sought w learner a) a (sought_of w (learned_from learner a) (ds ++ others)) (sought_of w (learned_from learner a) ds) (sought_of w (learned_from_all (learned_from learner a) ds) others)
+    (sought-append w (learned_from learner a) ds others)
 
 learned-append : (learner : Option Watch) (ds others : List ArrivalValue) → learned_from_all learner (ds ++ others) ≡ learned_from_all (learned_from_all learner ds) others
 learned-append learner [] others = refl

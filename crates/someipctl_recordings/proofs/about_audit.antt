@@ -4,3 +4,4 @@ pub mod StepLemmas
 pub mod SeenLemmas
 pub mod RunLemmas
 pub mod OneAudit
+pub mod ToldLemmas

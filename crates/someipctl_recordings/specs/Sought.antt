@@ -1,5 +1,5 @@
 -- Which datagrams of recordings are told of, where endpoints may be learned.
-use Rattle.std.specs.Prelude.{ℕ, Bool, true, false, ◌&&◌, if◌then◌else◌, List, [], ◌∷◌, Option, Some, None}
+use Rattle.std.specs.Prelude.{Bool, true, false, ◌&&◌, if◌then◌else◌, List, [], ◌∷◌, Option, Some, None}
 use Rattle.recording.specs.Records.{Item}
 use Rattle.recording_packets.specs.Intake.{ArrivalValue, IntakeValue, after_packets, arrivals, nothing_taken}
 use Rattle.someip_tables.specs.declared.hashed.Origin.{Origin}

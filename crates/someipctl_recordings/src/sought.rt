@@ -30,7 +30,7 @@ pub(crate) fn learner_of(alloc: Global, wanted: &Wanted<'_>) -> Result<Option<Le
 }
 
 /// The ports that are named, if any are.
-pub(crate) fn ports_of<'p>(ports: Option<&'p [u16]>) -> &'p [u16]
+fn ports_of<'p>(ports: Option<&'p [u16]>) -> &'p [u16]
     ensures { result.now ≡ ports_of (option_map (λ ports. ports.now) ports.entry) }
 {
     match ports {

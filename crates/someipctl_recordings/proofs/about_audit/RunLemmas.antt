@@ -33,7 +33,7 @@ use Rattle.someipctl_recordings.specs.audit.AuditResult.{BeginsAudit, IsAuditTex
 use Rattle.someipctl_recordings.specs.audit.AuditText.{Looked, audit_text, fell_line, report_line, report_lines, summary_text, told_of}
 use Rattle.someipctl_recordings.specs.audit.Runs.{EndsWith, PutsAudit, PutsDatagram, PutsEnd, PutsLast, PutsNext, PutsRecord, StopsDatagram, StopsEnd, StopsLast, StopsNext, StopsRecord}
 use Rattle.someipctl_recordings.specs.audit.SeenIn.{Tells, TellsSome, arrivals_in, audit_at, looked_more, looked_of, none_looked, seen_from, seen_in, seen_next}
-use Rattle.someipctl_recordings.specs.audit.Steps.{CountsMore, PutsSeen, StopsSeen, fell_told, is_told_at}
+use Rattle.someipctl_recordings.specs.audit.Steps.{CountsMore, PutsSeen, StopsSeen, fell_told}
 use Rattle.someipctl_recordings.specs.audit.Tallies.{Counts}
 use Rattle.someipctl_recordings.proofs.about_audit.StepLemmas.{counts_none, stops_here}
 use Rattle.someipctl_recordings.proofs.about_audit.SeenLemmas.{Goes, fell_told_in, heard_same, heard_told, latest, latest-append, looked_all, looked_first, looked_moved, looked_plus, seen_more, some_heard, some_same, some_step, tells_nothing, tells_step, time_now, told_on}

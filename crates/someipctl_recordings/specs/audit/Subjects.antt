@@ -24,7 +24,6 @@ use Rattle.someip_audit.specs.declared.Finding.{Finding}
 use Rattle.someip_audit.specs.declared.Finding.TheVariants as findings
 use Rattle.someip_audit.specs.declared.FellDue.{FellDue}
 use Rattle.someip_audit.specs.declared.FellDue.TheVariants as due
-use Rattle.someipctl_show.specs.Services.{asks_method}
 use Rattle.someipctl_show.specs.declared.services.AskedService.{AskedService}
 use Rattle.someipctl_recordings.specs.declared.audit.subject.Subject.{Subject}
 use Rattle.someipctl_recordings.specs.Wanted.{WantedValue, is_in_span}

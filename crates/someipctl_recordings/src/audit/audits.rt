@@ -9,7 +9,8 @@ ghost use Rattle.recording_packets.specs.View.{view_arrival};
 ghost use Rattle.someip_audit.specs.Audits.{Report};
 ghost use Rattle.recording_packets.specs.Intake.{after_packet, arrived};
 ghost use Rattle.someipctl_recordings.specs.Moments.{moment_of};
-ghost use Rattle.someipctl_recordings.specs.audit.AskedAudits.{view_asked};
+ghost use Rattle.someipctl_recordings.specs.audit.AskedAudits.{learns, view_asked};
+ghost use Rattle.someipctl_recordings.specs.Wanted.{ports_of, view_wanted};
 ghost use Rattle.someipctl_recordings.specs.audit.AuditResult.{BeginsAudit, ShowsAudit};
 ghost use Rattle.someipctl_recordings.specs.audit.AuditText.{Looked};
 ghost use Rattle.someipctl_recordings.specs.audit.Runs.{PutsAudit, PutsDatagram, PutsEnd, PutsLast, PutsNext, PutsRecord};
@@ -25,7 +26,7 @@ use crate::audit::tally::Tally;
 use crate::moments::moment_of;
 use crate::read_loop::{Coming, next_coming};
 use crate::reassembly::socket_of;
-use crate::sought::ports_of;
+use crate::wanted::Wanted;
 use crate::{FileFault, ShownRecording, StoppedAt};
 use recording::{Record, RecordingReader, Time};
 use recording_packets::{Arrival, Intake, LeftOut};
@@ -302,12 +303,26 @@ fn begin_with<S: Reassembly + Drop>(
     ensures begun { OnOk result (audit.new ≡ Some (audit_at (view_asked asked.now) None (view_seen seen.entry.now))) }
     ensures same { OnErr result (audit.new ≡ audit.old) }
 {
-    let watch = WatchRules {
-        ports: ports_of(asked.wanted.ports),
-        learns: asked.wanted.learned || asked.wanted.ports.is_none(),
-    };
+    let watch = watch_of(&asked.wanted);
     *audit = Some(Audit::begin(alloc, &asked.rules, &watch, seen.now)?);
     Ok(())
+}
+
+/// Which datagrams an audit looks at.
+fn watch_of<'w>(wanted: &Wanted<'w>) -> WatchRules<'w>
+    ensures ports { result.ports.now ≡ ports_of (view_wanted wanted.now).ports }
+    ensures learns { result.learns ≡ learns (view_wanted wanted.now) }
+{
+    match wanted.ports {
+        Some(ports) => WatchRules {
+            ports,
+            learns: wanted.learned,
+        },
+        None => WatchRules {
+            ports: &[],
+            learns: true,
+        },
+    }
 }
 
 /// Prints what fell due by the last moment, and the summary.

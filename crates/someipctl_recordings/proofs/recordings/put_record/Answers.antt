@@ -43,18 +43,18 @@ returns-in_default-clause-few g c =
     let more = ap (λ s. s.frames) c.in_ok-taken.ensures.after ∙ frames-more (view_asked c.args.asked.now).wanted.packets c.args.intake.now (view_record c.args.found.now) in
     omega (arith, more, c.requires.few)
 
-pub returns-then-not-seeks-clause-ok : goal.returns-then-not-seeks-clause-ok
-returns-then-not-seeks-clause-ok g c =
+pub returns-then-not-branch-clause-ok : goal.returns-then-not-branch-clause-ok
+returns-then-not-branch-clause-ok g c =
     let p = progress_of c.args.recorder.now.shown (view_store g.S.Reassembly.limits g.S.Reassembly.parts c.args.recorder.now.telling.store) in
     let one = sym c.in_ok-taken.ensures.arrived ∙ sym c.arrival.ensures ∙ ap (option_map view_arrival) c.in-Some.is in
-    let other = sym c.in_ok-seeks.ensures.sought ∙ c.if-not-seeks.true in
+    let other = sym c.in_ok-seeks.ensures.sought ∙ c.if-not-branch.true in
     recorded_none (view_asked c.args.asked.now) p _ (asked_other (view_asked c.args.asked.now) (record { intake = c.args.intake.now; learner = c.args.recorder.now.learner }) (view_record c.args.found.now) (view_arrival c.in-Some.arrival) one other) _ _
 
-pub returns-then-not-seeks-clause-progress : goal.returns-then-not-seeks-clause-progress
-returns-then-not-seeks-clause-progress g c =
+pub returns-then-not-branch-clause-progress : goal.returns-then-not-branch-clause-progress
+returns-then-not-branch-clause-progress g c =
     let p = progress_of c.args.recorder.now.shown (view_store g.S.Reassembly.limits g.S.Reassembly.parts c.args.recorder.now.telling.store) in
     let one = sym c.in_ok-taken.ensures.arrived ∙ sym c.arrival.ensures ∙ ap (option_map view_arrival) c.in-Some.is in
-    let other = sym c.in_ok-seeks.ensures.sought ∙ c.if-not-seeks.true in
+    let other = sym c.in_ok-seeks.ensures.sought ∙ c.if-not-branch.true in
     after_none (view_asked c.args.asked.now) p _ (asked_other (view_asked c.args.asked.now) (record { intake = c.args.intake.now; learner = c.args.recorder.now.learner }) (view_record c.args.found.now) (view_arrival c.in-Some.arrival) one other)
 
 pub returns-in_err-seeks-clause-err : goal.returns-in_err-seeks-clause-err
@@ -64,13 +64,13 @@ returns-in_err-seeks-clause-err g c =
     let ds = asked_from asked (record { intake = c.args.intake.now; learner = c.args.recorder.now.learner }) (Ok (view_record c.args.found.now) ∷ []) in
     OnErr-any c.from_residual-in_err-seeks.result (stops_none (AreRecorded asked p ds) _ _ (some_recorded asked p ds))
 
-pub returns-then-not-seeks-clause-took : goal.returns-then-not-seeks-clause-took
-returns-then-not-seeks-clause-took g c =
+pub returns-then-not-branch-clause-took : goal.returns-then-not-branch-clause-took
+returns-then-not-branch-clause-took g c =
     let one = sym c.in_ok-taken.ensures.arrived ∙ sym c.arrival.ensures ∙ ap (option_map view_arrival) c.in-Some.is in
     after_came (view_asked c.args.asked.now).wanted (record { intake = c.args.intake.now; learner = c.args.recorder.now.learner }) (view_record c.args.found.now) (view_arrival c.in-Some.arrival) c.take.new.self _ one c.in_ok-taken.ensures.after c.in_ok-seeks.ensures.learned
 
-pub returns-then-not-seeks-clause-few : goal.returns-then-not-seeks-clause-few
-returns-then-not-seeks-clause-few g c =
+pub returns-then-not-branch-clause-few : goal.returns-then-not-branch-clause-few
+returns-then-not-branch-clause-few g c =
     let more = ap (λ s. s.frames) c.in_ok-taken.ensures.after ∙ frames-more (view_asked c.args.asked.now).wanted.packets c.args.intake.now (view_record c.args.found.now) in
     omega (arith, more, c.requires.few)
 
@@ -83,7 +83,7 @@ pub returns-clause-ok : goal.returns-clause-ok
 returns-clause-ok g c =
     let p = progress_of c.args.recorder.now.shown (view_store g.S.Reassembly.limits g.S.Reassembly.parts c.args.recorder.now.telling.store) in
     let one = sym c.in_ok-taken.ensures.arrived ∙ sym c.arrival.ensures ∙ ap (option_map view_arrival) c.in-Some.is in
-    let wanted = sym c.in_ok-seeks.ensures.sought ∙ c.if-not-seeks.false in
+    let wanted = sym c.in_ok-seeks.ensures.sought ∙ c.if-not-branch.false in
     let asked = view_asked c.args.asked.now in
     let a = view_arrival c.in-Some.arrival in
     let ds = asked_from asked (record { intake = c.args.intake.now; learner = c.args.recorder.now.learner }) (Ok (view_record c.args.found.now) ∷ []) in
@@ -95,7 +95,7 @@ pub returns-clause-progress : goal.returns-clause-progress
 returns-clause-progress g c =
     let p = progress_of c.args.recorder.now.shown (view_store g.S.Reassembly.limits g.S.Reassembly.parts c.args.recorder.now.telling.store) in
     let one = sym c.in_ok-taken.ensures.arrived ∙ sym c.arrival.ensures ∙ ap (option_map view_arrival) c.in-Some.is in
-    let wanted = sym c.in_ok-seeks.ensures.sought ∙ c.if-not-seeks.false in
+    let wanted = sym c.in_ok-seeks.ensures.sought ∙ c.if-not-branch.false in
     let asked = view_asked c.args.asked.now in
     let a = view_arrival c.in-Some.arrival in
     rw (after_one asked p (asked_from asked (record { intake = c.args.intake.now; learner = c.args.recorder.now.learner }) (Ok (view_record c.args.found.now) ∷ [])) a (asked_one asked (record { intake = c.args.intake.now; learner = c.args.recorder.now.learner }) (view_record c.args.found.now) a one wanted))
@@ -116,7 +116,7 @@ pub returns-clause-err : goal.returns-clause-err
 returns-clause-err g c =
     let p = progress_of c.args.recorder.now.shown (view_store g.S.Reassembly.limits g.S.Reassembly.parts c.args.recorder.now.telling.store) in
     let one = sym c.in_ok-taken.ensures.arrived ∙ sym c.arrival.ensures ∙ ap (option_map view_arrival) c.in-Some.is in
-    let wanted = sym c.in_ok-seeks.ensures.sought ∙ c.if-not-seeks.false in
+    let wanted = sym c.in_ok-seeks.ensures.sought ∙ c.if-not-branch.false in
     let asked = view_asked c.args.asked.now in
     let a = view_arrival c.in-Some.arrival in
     let ds = asked_from asked (record { intake = c.args.intake.now; learner = c.args.recorder.now.learner }) (Ok (view_record c.args.found.now) ∷ []) in

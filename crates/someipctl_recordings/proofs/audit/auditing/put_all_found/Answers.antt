@@ -1,11 +1,10 @@
-use Rattle.std.proofs.Common.{ap, filter, map, drop, ◌∷◌, []}
+use Rattle.std.proofs.Common.{◌+◌, ap, map, drop, ◌∷◌, []}
 use Rattle.std.specs.List.{flat_map}
 use Rattle.std.proofs.lemmas.List.{drop_all, drop_more}
 use Rattle.someip_audit.specs.Audits.{found}
 use Rattle.someipctl_io.proofs.SendingLemmas.{OnErr-any, IsSending-more, IsSending-stop}
 use Rattle.someipctl_recordings.specs.audit.AskedAudits.{view_asked}
 use Rattle.someipctl_recordings.specs.audit.AuditText.{found_line}
-use Rattle.someipctl_recordings.specs.audit.Steps.{is_told_at}
 use Rattle.someipctl_recordings.proofs.about_audit.StepLemmas.{counts_both, counts_none, told_more}
 use Rattle.someipctl_recordings.proofs.audit.auditing.put_all_found.Goals as goal
 

@@ -1,3 +1,4 @@
+use Rattle.std.proofs.Common.{false, refl}
 use Rattle.someipctl_io.proofs.SendingLemmas.{OnErr-any}
 use Rattle.someipctl_recordings.specs.audit.AskedAudits.{view_asked}
 use Rattle.someipctl_recordings.proofs.about_audit.RunLemmas.{end_puts, end_stops}
@@ -10,4 +11,4 @@ returns-in_err-put_summary-clause-stops g c = λ reports looked counts.
 
 pub returns-clause-puts : goal.returns-clause-puts
 returns-clause-puts g c = λ reports looked counts.
-    end_puts (view_asked c.args.asked.now) c.args.gone.now c.args.auditing.now.audit c.put_last.new.tally reports looked _ _ _ _ _ _ _ c.in_ok-put_last.ensures.puts counts (λ all counted. c.in_ok-put_summary.ensures.ok all looked counted) c.of.ensures refl
+    end_puts (view_asked c.args.asked.now) c.args.gone.now c.args.auditing.now.audit c.put_last.new.tally reports looked _ _ _ _ _ _ (record { outcome = c.of.result; left_out = c.args.left_out; is_full = false; fault = c.args.fault }) c.in_ok-put_last.ensures.puts counts (λ all counted. c.in_ok-put_summary.ensures.ok all looked counted) c.of.ensures refl
