@@ -4,3 +4,8 @@ pub mod HexLemmas
 pub mod LinesLemmas
 pub mod DiscoveryLemmas
 pub mod RoomLemmas
+pub mod EscapeLemmas
+pub mod JsonLemmas
+pub mod ObjectLemmas
+pub mod PlainLemmas
+pub mod ValueLemmas

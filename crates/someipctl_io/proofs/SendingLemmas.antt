@@ -107,3 +107,10 @@ Sends-flush a b c held waits new text one other = subst (Sends a held c new) (ap
 
 pub Stops-flush : (a b c : Option (List ℕ)) (held waits text : List ℕ) → Sends a held b waits text → Stops b waits c [] → Stops a held c text
 Stops-flush a b c held waits text one other = subst (Stops a held c) (append-nil text) (Stops-after a b c held waits text [] one other)
+
+-- the same text, said otherwise
+pub Sends-as : (a b : Option (List ℕ)) (held waits text other : List ℕ) → text ≡ other → Sends a held b waits text → Sends a held b waits other
+Sends-as a b held waits text other is = subst (Sends a held b waits) is
+
+pub Stops-as : (a b : Option (List ℕ)) (held text other : List ℕ) → text ≡ other → Stops a held b text → Stops a held b other
+Stops-as a b held text other is = subst (Stops a held b) is

@@ -8,3 +8,10 @@ pub mod Words
 pub mod Options
 pub mod Discovery
 pub mod Items
+pub mod JsonTexts
+pub mod ValueObjects
+pub mod OptionObjects
+pub mod ToldLines
+pub mod ToldViews
+pub mod ToldItems
+pub mod ToldExamples

@@ -181,25 +181,25 @@ fn eventgroup_parts(k: usize, entry: &EventgroupEntry) -> [Part<'static>; 15]
     ]
 }
 
-fn ttl_of_service(entry: &ServiceEntry) -> usize
+pub(crate) fn ttl_of_service(entry: &ServiceEntry) -> usize
     ensures { result ≡ entry.now.ttl }
 {
     entry.ttl.seconds() as usize
 }
 
-fn ttl_of_eventgroup(entry: &EventgroupEntry) -> usize
+pub(crate) fn ttl_of_eventgroup(entry: &EventgroupEntry) -> usize
     ensures { result ≡ entry.now.ttl }
 {
     entry.ttl.seconds() as usize
 }
 
-fn counter_of(entry: &EventgroupEntry) -> usize
+pub(crate) fn counter_of(entry: &EventgroupEntry) -> usize
     ensures { result ≡ entry.now.counter }
 {
     entry.counter.number() as usize
 }
 
-fn name_of_service(entry: &ServiceEntry) -> &'static str
+pub(crate) fn name_of_service(entry: &ServiceEntry) -> &'static str
     ensures { result.now ≡ service_name entry.now.kind entry.now.ttl }
 {
     match entry.kind {
@@ -214,7 +214,7 @@ fn name_of_service(entry: &ServiceEntry) -> &'static str
     }
 }
 
-fn name_of_eventgroup(entry: &EventgroupEntry) -> &'static str
+pub(crate) fn name_of_eventgroup(entry: &EventgroupEntry) -> &'static str
     ensures { result.now ≡ eventgroup_name entry.now.kind entry.now.ttl }
 {
     let ends = entry.ttl.seconds() == 0;

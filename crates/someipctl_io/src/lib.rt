@@ -23,23 +23,37 @@
 
 mod discovery;
 mod fault;
+mod form;
 mod input;
 mod items;
 mod laws;
 mod lines;
+mod objects;
 mod options;
 mod outcome;
 mod output;
 mod parts;
+mod told;
+mod told_entries;
+mod told_items;
+mod told_lines;
+mod told_options;
 mod words;
 
 pub use fault::{Fault, PrintFault};
+pub use form::Form;
 pub use input::{ReadFault, read_all};
 pub use items::{FoundItem, item_len, put_item};
-pub use laws::errors_of_reads_are_told_by_their_kind;
+pub use laws::{
+    a_plain_line_tells_the_same, an_object_reads_as_its_line,
+    errors_of_reads_are_told_by_their_kind, what_objects_say,
+};
 pub use lines::{put_dropped, put_empty, put_whole_line};
 pub use outcome::Outcome;
 pub use output::{Buffer, CannotWrite, write_text};
 pub use parts::{Part, put_parts};
 pub use someip_texts::Word;
+pub use told::{Field, Line, LineHead, Said, put_begin, put_end_of_line, put_fields, put_line};
+pub use told_items::{datagram_field, put_empty_object, put_item_objects, put_told_item};
+pub use told_lines::{put_dropped_in, put_empty_in, put_fault_in, put_whole_in};
 pub use words::{put_end, put_words};

@@ -275,7 +275,7 @@ pub(crate) fn digit_of_flag(flag: bool) -> &'static str
     if flag { "1" } else { "0" }
 }
 
-fn name_of_type(kind: MessageType) -> &'static str
+pub(crate) fn name_of_type(kind: MessageType) -> &'static str
     ensures { result.now ≡ type_name kind }
 {
     match kind {

@@ -1,5 +1,5 @@
 //! The runs of options of an entry's line.
-ghost use Rattle.std.specs.Prelude.{◌≡◌, ◌++◌, OnOk, OnErr, codes};
+ghost use Rattle.std.specs.Prelude.{◌≡◌, ◌<◌, ◌++◌, OnOk, OnErr, codes};
 ghost use Rattle.std.specs.List.{flat_map};
 ghost use Rattle.someipctl_io.specs.Sending.{Sends, Stops};
 ghost use Rattle.someipctl_io.specs.Parts.{part_text};
@@ -43,7 +43,7 @@ fn put_last_run<W: Write>(
 }
 
 /// Prints a run of options after a text.
-fn put_run<W: Write>(
+pub(crate) fn put_run<W: Write>(
     buffer: &mut Buffer,
     writer: &mut W,
     before: &str,
@@ -234,8 +234,9 @@ fn put_text<W: Write>(buffer: &mut Buffer, writer: &mut W, text: &str) -> Result
 }
 
 /// A protocol's name, and its number where it has no name of its own.
-fn protocol_parts(protocol: Protocol) -> (Part<'static>, Part<'static>)
-    ensures { part_text result.0 ++ part_text result.1 ≡ protocol_text protocol.0 }
+pub(crate) fn protocol_parts(protocol: Protocol) -> (Part<'static>, Part<'static>)
+    ensures text { part_text result.0 ++ part_text result.1 ≡ protocol_text protocol.0 }
+    ensures byte { protocol.0 < 256 }
 {
     if protocol == Protocol::TCP {
         (Part::Text("tcp"), Part::Text(""))

@@ -8,7 +8,9 @@ pub mod PlaceLemmas
 pub mod ReadingsLemmas
 pub mod VectorLemmas
 pub mod VerdictLemmas
+pub mod VerdictFormLemmas
 pub mod PayloadLemmas
 pub mod BlankLemmas
 pub mod WordLemmas
 pub mod about_types
+pub mod FormLemmas

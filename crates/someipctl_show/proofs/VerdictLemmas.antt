@@ -1,16 +1,11 @@
 -- Vectors that are judged one after the other, and what `vectors` promises of that.
-use Rattle.std.proofs.Common.{◌≡◌, ◌<◌, ◌≤◌, ℕ, zero, suc, ◌+◌, Bool, List, [], ◌∷◌, ◌++◌, length, get_or, drop, map, Option, Some, refl, sym, ap, ◌∙◌, subst, append_assoc, arith, add-one, drop-cons}
-use Rattle.std.specs.Prelude.{IfSome}
+use Rattle.std.proofs.Common.{◌≡◌, ◌<◌, ◌≤◌, ℕ, zero, suc, ◌+◌, Bool, List, [], ◌∷◌, ◌++◌, length, get_or, drop, map, refl, sym, ap, ◌∙◌, subst, append_assoc, arith, add-one, drop-cons}
 use Rattle.std.proofs.lemmas.List.{append-nil, drop_all}
 use Rattle.someipctl_show.specs.declared.vector_lines.Question.{Question}
 use Rattle.someipctl_show.specs.declared.vector_lines.VectorLine.{VectorLine}
 use Rattle.someipctl_show.specs.declared.vector_lines.VectorLine.TheVariants.{Asks}
-use Rattle.someipctl_io.specs.declared.fault.Fault.{Fault}
-use Rattle.someipctl_io.specs.declared.fault.Fault.TheVariants.{Refused, CannotRead, CannotWrite, OutOfMemory}
-use Rattle.someipctl_show.specs.declared.vectors.BadVectorLine.{BadVectorLine}
 use Rattle.someipctl_show.specs.VectorLines.{asked_by, said_by}
-use Rattle.someipctl_show.specs.Vectors.{Vector, AreJudged, IsJudged, RefusesVectors, expected_text, vectors_in}
-use Rattle.someipctl_io.proofs.InputLemmas.{WasLeft-read}
+use Rattle.someipctl_show.specs.Vectors.{Vector, AreJudged, IsJudged, expected_text, vectors_in}
 
 -- the result at a place, and those after it
 pub next_result : (results : List Bool) (i : ℕ) (d : Bool) → i < length results → drop i results ≡ get_or results i d ∷ drop (i + 1) results
@@ -38,21 +33,3 @@ pub judged_all : (lines : List VectorLine) (i : ℕ) (results : List Bool) → l
 judged_all lines i results end so_far =
     let none : AreJudged (vectors_in (map said_by (drop i lines))) [] = rw (drop_all i lines end) tt in
     subst (AreJudged (vectors_in (map said_by lines))) (append-nil results) (so_far [] none)
-
-pub RefusesVectors-read : (input : Option (List ℕ)) (text : List ℕ) (e : Fault BadVectorLine) (a b : Option (List ℕ)) → IfSome input (λ known. text ≡ known)
-    → RefusesVectors (Some text) e a b → RefusesVectors input e a b
-RefusesVectors-read input text (Refused bad) a b read r = ((r.0.0, WasLeft-read input text r.0.0 read r.0.1, r.0.2), r.1)
-RefusesVectors-read input text CannotRead a b read r = r
-RefusesVectors-read input text CannotWrite a b read r = record {
-  file = r.file;
-  left = WasLeft-read input text r.file read r.left;
-  sayings = r.sayings;
-  says = r.says;
-  results = r.results;
-  judged = r.judged;
-  sent = r.sent;
-  unsent = r.unsent;
-  wrote = r.wrote;
-  beginning = r.beginning;
-}
-RefusesVectors-read input text OutOfMemory a b read r = r

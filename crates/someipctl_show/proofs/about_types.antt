@@ -11,3 +11,5 @@ pub mod AlikeLemmas
 pub mod TableLemmas
 pub mod FaultLemmas
 pub mod ReadLemmas
+pub mod ValueTokenLemmas
+pub mod ValueFieldLemmas

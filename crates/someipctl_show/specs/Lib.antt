@@ -5,8 +5,10 @@ pub mod Readings
 pub mod TextKinds
 pub mod ShownText
 pub mod ShowResult
+pub mod ShownForms
 pub mod Payload
 pub mod VectorLines
 pub mod Vectors
+pub mod VerdictForms
 pub mod types
 pub mod Encoding

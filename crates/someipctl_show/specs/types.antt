@@ -1,6 +1,8 @@
 pub mod Types
 pub mod TypesCode
 pub mod ValueLine
+pub mod ValueFields
+pub mod ValueTokens
 pub mod Views
 pub mod GoodTypes
 pub mod Keys

@@ -18,10 +18,13 @@ mod message_types;
 mod names;
 mod reading;
 mod references;
+mod shape_parts;
 mod tables;
 mod typed_message;
 mod unknown;
+mod value_fields;
 mod value_line;
+mod value_object;
 
 pub use error::{TypesError, TypesRefusal};
 pub use key_error::KeyError;

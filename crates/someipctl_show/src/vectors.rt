@@ -11,16 +11,20 @@ ghost use Rattle.std.specs.Prelude.{◌≡◌, ◌≢◌, ◌++◌, [], Some, Er
 ghost use Rattle.std.specs.Io.KnownBytes.{Appends};
 ghost use Rattle.someip_texts.specs.Lines.{lines_of};
 ghost use Rattle.someipctl_io.specs.Sending.{Sends, Stops};
+ghost use Rattle.someipctl_io.specs.ToldLines.{field, line_text, number};
+ghost use Rattle.someipctl_io.specs.ToldViews.{view_field};
 ghost use Rattle.someipctl_show.specs.VectorLines.{AreSaid, asked_by, has_vector, said_by};
 ghost use Rattle.someipctl_show.specs.Vectors.{AreJudged, IsJudged, IsPrintedOf, Judges, RefusesLines, RefusesVectors};
-ghost use Rattle.someipctl_show.specs.Vectors.{count_passed, expected_text, summary_line};
-ghost use Rattle.someipctl_show.specs.Vectors.{vectors_in, verdict_line, verdict_lines};
-ghost use Rattle.someipctl_show.specs.Vectors.{verdicts_text};
+ghost use Rattle.someipctl_show.specs.Vectors.{count_passed, expected_text, vectors_in};
+ghost use Rattle.someipctl_show.specs.VerdictForms.{JudgesIn, RefusesVectorsIn, head_of, no_head, result_field, summary_told, vector_head};
+ghost use Rattle.someipctl_show.specs.VerdictForms.{verdict_lines_in, verdict_told, verdicts_text_in, wordless};
 
 use crate::payload::read_text;
 use crate::show::text_of_datagram;
 use crate::vector_lines::{LineFault, Question, VectorLine, line_of};
-use someipctl_io::{Buffer, CannotWrite, Fault, Outcome, Part, put_parts, read_all};
+use someipctl_io::{
+    Buffer, CannotWrite, Fault, Field, Form, Line, LineHead, Outcome, Said, put_line, read_all,
+};
 use std::alloc::{AllocError, Global};
 use std::io::{Read, Write};
 use thiserror::Error;
@@ -45,8 +49,23 @@ pub fn vectors<R: Read, W: Write>(
     ensures refused { IfErr result (λ error. RefusesVectors (R.remaining reader.old) error
         (W.contents writer.old) (W.contents writer.new)) }
 {
+    vectors_in(alloc, Form::Plain, reader, writer)
+}
+
+/// The same, with lines in the form that is asked for. The text that a vector expects is plain.
+pub fn vectors_in<R: Read, W: Write>(
+    alloc: Global,
+    form: Form,
+    reader: &mut R,
+    writer: &mut W,
+) -> Result<Outcome, Fault<BadVectorLine>>
+    ensures judged { IfOk result (λ outcome. JudgesIn form (R.remaining reader.old) outcome
+        (W.contents writer.old) (W.contents writer.new)) }
+    ensures refused { IfErr result (λ error. RefusesVectorsIn form (R.remaining reader.old) error
+        (W.contents writer.old) (W.contents writer.new)) }
+{
     let text = read_all(alloc, reader)?;
-    judge_vectors(alloc, &text, writer)
+    judge_vectors_in(alloc, form, &text, writer)
 }
 
 /// Checks every line of a file of vectors, and then judges them, as `vectors` does.
@@ -62,10 +81,26 @@ pub fn judge_vectors<W: Write>(
     // A file that is there cannot fail to be read.
     ensures there { result ≢ Err Fault.CannotRead }
 {
+    judge_vectors_in(alloc, Form::Plain, text, writer)
+}
+
+/// The same, with lines in the form that is asked for.
+pub fn judge_vectors_in<W: Write>(
+    alloc: Global,
+    form: Form,
+    text: &[u8],
+    writer: &mut W,
+) -> Result<Outcome, Fault<BadVectorLine>>
+    ensures judged { IfOk result (λ outcome. JudgesIn form (Some text.now) outcome
+        (W.contents writer.old) (W.contents writer.new)) }
+    ensures refused { IfErr result (λ error. RefusesVectorsIn form (Some text.now) error
+        (W.contents writer.old) (W.contents writer.new)) }
+    ensures there { result ≢ Err Fault.CannotRead }
+{
     let lines = read_lines(alloc, text)?;
     let results = judge(alloc, &lines)?;
     let mut buffer = Buffer::new(alloc)?;
-    write_verdicts(&mut buffer, writer, &results)?;
+    write_verdicts(&mut buffer, writer, form, &results)?;
     Ok(Outcome::of(results.contains(&false)))
 }
 
@@ -171,16 +206,17 @@ fn answer(alloc: Global, question: &Question) -> Result<Vec<u8>, AllocError>
 fn write_verdicts<W: Write>(
     buffer: &mut Buffer,
     writer: &mut W,
+    form: Form,
     results: &[bool],
 ) -> Result<(), CannotWrite>
     requires { buffer.old ≡ [] }
     ensures ok { OnOk result (Appends (W.contents writer.old)
-        (W.contents writer.new) (verdicts_text results.now)) }
+        (W.contents writer.new) (verdicts_text_in form results.now)) }
     ensures err { OnErr result (Stops (W.contents writer.old) []
-        (W.contents writer.new) (verdicts_text results.now)) }
+        (W.contents writer.new) (verdicts_text_in form results.now)) }
 {
-    put_verdicts(buffer, writer, results)?;
-    put_summary(buffer, writer, results)?;
+    put_verdicts(buffer, writer, form, results)?;
+    put_summary(buffer, writer, form, results)?;
     buffer.flush(writer)
 }
 
@@ -188,15 +224,16 @@ fn write_verdicts<W: Write>(
 fn put_verdicts<W: Write>(
     buffer: &mut Buffer,
     writer: &mut W,
+    form: Form,
     results: &[bool],
 ) -> Result<(), CannotWrite>
     ensures ok { OnOk result (Sends (W.contents writer.old) buffer.old
-        (W.contents writer.new) buffer.new (verdict_lines 1 results.now)) }
+        (W.contents writer.new) buffer.new (verdict_lines_in form 1 results.now)) }
     ensures err { OnErr result (Stops (W.contents writer.old) buffer.old
-        (W.contents writer.new) (verdict_lines 1 results.now)) }
+        (W.contents writer.new) (verdict_lines_in form 1 results.now)) }
 {
     for (i, passed) in results.iter().enumerate() {
-        put_verdict(buffer, writer, i + 1, *passed)?;
+        put_verdict(buffer, writer, form, i + 1, *passed)?;
     }
     Ok(())
 }
@@ -205,40 +242,91 @@ fn put_verdicts<W: Write>(
 fn put_verdict<W: Write>(
     buffer: &mut Buffer,
     writer: &mut W,
+    form: Form,
     k: usize,
     passed: bool,
 ) -> Result<(), CannotWrite>
     ensures ok { OnOk result (Sends (W.contents writer.old) buffer.old
-        (W.contents writer.new) buffer.new (verdict_line k passed)) }
+        (W.contents writer.new) buffer.new (line_text form (vector_head k) (verdict_told passed))) }
     ensures err { OnErr result (Stops (W.contents writer.old) buffer.old
-        (W.contents writer.new) (verdict_line k passed)) }
+        (W.contents writer.new) (line_text form (vector_head k) (verdict_told passed))) }
 {
-    let verdict = if passed { " ok\n" } else { " differs\n" };
-    put_parts(buffer, writer, &[Part::Number(k), Part::Text(verdict)])
+    put_told(
+        buffer,
+        writer,
+        form,
+        &[number_field("", "vector", k)],
+        "vector",
+        &[result_field(passed)],
+    )
+}
+
+/// Prints a line of a kind, of which a plain line says no word.
+fn put_told<'l, W: Write>(
+    buffer: &mut Buffer,
+    writer: &mut W,
+    form: Form,
+    number: &'l [Field<'l>],
+    kind: &'l str,
+    fields: &'l [Field<'l>],
+) -> Result<(), CannotWrite>
+    ensures ok { OnOk result (Sends (W.contents writer.old) buffer.old (W.contents writer.new) buffer.new
+        (line_text form (head_of (map view_field number.now)) (wordless kind.now (map view_field fields.now)))) }
+    ensures err { OnErr result (Stops (W.contents writer.old) buffer.old (W.contents writer.new)
+        (line_text form (head_of (map view_field number.now)) (wordless kind.now (map view_field fields.now)))) }
+{
+    let head = LineHead {
+        form,
+        number,
+        origin: &[],
+    };
+    let line = Line {
+        kind,
+        word: None,
+        fields,
+    };
+    put_line(buffer, writer, &head, &line)
+}
+
+fn number_field<'f>(lead: &'f str, key: &'f str, n: usize) -> Field<'f>
+    ensures { view_field result ≡ field lead.now key.now (number n) }
+{
+    Field {
+        lead,
+        key,
+        said: Said::Number(n),
+    }
+}
+
+/// Whether a vector passed.
+fn result_field(passed: bool) -> Field<'static>
+    ensures { view_field result ≡ result_field passed }
+{
+    let result = if passed { "ok" } else { "differs" };
+    Field {
+        lead: " ",
+        key: "result",
+        said: Said::Text(result),
+    }
 }
 
 /// Prints how many vectors passed, and how many there are.
 fn put_summary<W: Write>(
     buffer: &mut Buffer,
     writer: &mut W,
+    form: Form,
     results: &[bool],
 ) -> Result<(), CannotWrite>
     ensures ok { OnOk result (Sends (W.contents writer.old) buffer.old
-        (W.contents writer.new) buffer.new (summary_line results.now)) }
+        (W.contents writer.new) buffer.new (line_text form no_head (summary_told results.now))) }
     ensures err { OnErr result (Stops (W.contents writer.old) buffer.old
-        (W.contents writer.new) (summary_line results.now)) }
+        (W.contents writer.new) (line_text form no_head (summary_told results.now))) }
 {
-    put_parts(
-        buffer,
-        writer,
-        &[
-            Part::Text("passed "),
-            Part::Number(count_passed(results)),
-            Part::Text(" of "),
-            Part::Number(results.len()),
-            Part::Text("\n"),
-        ],
-    )
+    let fields = [
+        number_field("passed ", "passed", count_passed(results)),
+        number_field(" of ", "of", results.len()),
+    ];
+    put_told(buffer, writer, form, &[], "passed", &fields)
 }
 
 fn count_passed(results: &[bool]) -> usize

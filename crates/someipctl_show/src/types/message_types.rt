@@ -7,6 +7,7 @@ ghost use Rattle.someipctl_show.specs.types.GoodTypes.{IsGoodTypes};
 ghost use Rattle.someipctl_show.specs.types.Faults.{HasFault, TextHasFault, IsReadUnlessMemory};
 ghost use Rattle.someipctl_show.specs.types.Says.{SaysTypes, TextSays, tree_of};
 ghost use Rattle.someipctl_show.specs.types.Types.{TypesValue, table_for};
+ghost use Rattle.someipctl_show.specs.types.ValueFields.{AreValueFields, IsFieldsBehind};
 ghost use Rattle.someipctl_show.specs.types.ValueLine.{IsValueLine, has_value_fault};
 ghost use Rattle.someipctl_show.specs.types.Views.{typed_view};
 
@@ -17,6 +18,7 @@ use crate::types::names::names_in;
 use crate::types::tables::{message_tables, typed_messages};
 use crate::types::typed_message::TypedMessage;
 use crate::types::unknown::refuse_unknown;
+use crate::types::value_fields::put_payload_fields;
 use crate::types::value_line::put_payload_line;
 use someip_wire::{Header, Message};
 use std::alloc::{AllocError, Global};
@@ -142,6 +144,28 @@ impl MessageTypes {
             line.clear();
         }
         made
+    }
+
+    /// Puts the fields of the object of the value of a message behind others: none where no table names the
+    /// message. Says whether they tell a fault. The message begins at the place in its datagram. `text` is room
+    /// for the text of a float.
+    pub(crate) fn put_value_fields(
+        &self,
+        alloc: Global,
+        place: usize,
+        message: &Message<'_>,
+        out: Vec<u8>,
+        text: &mut String,
+    ) -> Result<(Vec<u8>, bool), AllocError>
+        requires room { place + length (spelling (message_view message.now)) ≤ usize.MAX }
+        ensures ok { IfOk result (λ r. IsFieldsBehind out.items
+            (AreValueFields self.now place (message_view message.now)) r.0.items) }
+        ensures faulty { IfOk result (λ r. r.1 ≡ has_value_fault self.now (message_view message.now)) }
+    {
+        let Some(table) = self.table_for(&message.header) else {
+            return Ok((out, false));
+        };
+        put_payload_fields(alloc, table, place, message.payload, out, text)
     }
 
     /// The table that names the messages with a header, if there is one.

@@ -5,11 +5,12 @@ use Rattle.someipctl_show.proofs.ReadingsLemmas.{left_behind, more}
 use Rattle.someip_wire.specs.Reading.{items_of}
 use Rattle.someip_wire.specs.View.{view_item}
 use Rattle.someipctl_io.specs.Items.{item_len}
-use Rattle.someipctl_show.specs.ShownText.{AreLines, IsItemText, shows_fault}
+use Rattle.someipctl_show.specs.ShownForms.{AreLinesIn, IsItemTextIn}
+use Rattle.someipctl_show.specs.ShownText.{shows_fault}
 use Rattle.someipctl_io.proofs.SendingLemmas.{OnErr-any}
 use Rattle.someipctl_show.proofs.KindLemmas.{sending_start, sending_end, sending_more, sending_stop}
-use Rattle.someipctl_show.proofs.SomeTexts.{some_lines}
-use Rattle.someipctl_show.proofs.ShownTextLemmas.{any_end, any_more, items_len, items_within_datagram, next_item}
+use Rattle.someipctl_show.proofs.ShownTextLemmas.{any_end, any_more, items_len, items_within_datagram}
+use Rattle.someipctl_show.proofs.FormLemmas.{next_item_in, some_lines_in}
 use Rattle.someipctl_show.proofs.show.put_items.Goals as goal
 
 pub loop-item-init : goal.loop-item-init
@@ -18,7 +19,7 @@ loop-item-init g c =
     let within = items_within_datagram c.args.datagram.now c.new-item-items.result (search rules) in
     let all : c.into_iter-item-iterator.result ≡ items_of c.args.datagram.now = search rules in
     let begins : map view_reading c.args.left.now.now ≡ readings_in c.into_iter-item-iterator.result ++ c.requires.0 = c.requires.1 ∙ ap (λ i. readings_in i ++ c.requires.0) (sym all) in
-    (sending_start _ _ (AreLines c.args.values.now.types.now c.args.k 0 c.into_iter-item-iterator.result), refl, omega (arith, within, ap items_len same), (c.requires.0, begins, begins), refl)
+    (sending_start _ _ (AreLinesIn c.args.form c.args.values.now.types.now c.args.k 0 c.into_iter-item-iterator.result), refl, omega (arith, within, ap items_len same), (c.requires.0, begins, begins), refl)
 
 pub returns-in_err-faulty-clause-err : goal.returns-in_err-faulty-clause-err
 returns-in_err-faulty-clause-err g c =
@@ -28,17 +29,17 @@ returns-in_err-faulty-clause-err g c =
     let all : c.into_iter-item-iterator.result ≡ items_of c.args.datagram.now = search rules in
     rw (← all)
     (OnErr-any c.from_residual.result
-    (sending_stop _ _ _ _ _ (IsItemText types c.args.k c.loop-item.place item) (AreLines types c.args.k next c.next.new.self) (AreLines types c.args.k 0 c.into_iter-item-iterator.result)
-    (next_item types c.args.k c.loop-item.place _ _ _ _ _ _ item _ c.in-Some.ensures.steps c.loop-item.invariant.0) (rw c.loop-item.invariant.4 at c.in_err-faulty.ensures.err)
-    (some_lines types c.args.k next c.next.new.self)))
+    (sending_stop _ _ _ _ _ (IsItemTextIn c.args.form types c.args.k c.loop-item.place item) (AreLinesIn c.args.form types c.args.k next c.next.new.self) (AreLinesIn c.args.form types c.args.k 0 c.into_iter-item-iterator.result)
+    (next_item_in c.args.form types c.args.k c.loop-item.place _ _ _ _ _ _ item _ c.in-Some.ensures.steps c.loop-item.invariant.0) (rw c.loop-item.invariant.4 at c.in_err-faulty.ensures.err)
+    (some_lines_in c.args.form types c.args.k next c.next.new.self)))
 
 pub loop-item-preserved : goal.loop-item-preserved
 loop-item-preserved g c =
     let types = c.args.values.now.types.now in
     let item = view_item c.in-Some.item in
     rw c.item_len.ensures (
-      sending_more _ _ _ _ _ _ (IsItemText types c.args.k c.loop-item.place item) (AreLines types c.args.k (c.loop-item.place + item_len item) c.next.new.self) (AreLines types c.args.k 0 c.into_iter-item-iterator.result)
-          (next_item types c.args.k c.loop-item.place _ _ _ _ _ _ item _ c.in-Some.ensures.steps c.loop-item.invariant.0) (rw c.loop-item.invariant.4 at c.in_ok-faulty.ensures.ok),
+      sending_more _ _ _ _ _ _ (IsItemTextIn c.args.form types c.args.k c.loop-item.place item) (AreLinesIn c.args.form types c.args.k (c.loop-item.place + item_len item) c.next.new.self) (AreLinesIn c.args.form types c.args.k 0 c.into_iter-item-iterator.result)
+          (next_item_in c.args.form types c.args.k c.loop-item.place _ _ _ _ _ _ item _ c.in-Some.ensures.steps c.loop-item.invariant.0) (rw c.loop-item.invariant.4 at c.in_ok-faulty.ensures.ok),
       rw (c.in_ok-faulty.ensures.faulty, c.loop-item.invariant.4) (any_more (shows_fault c.args.values.now.types.now) c.loop-item.faulty _ _ (view_item c.in-Some.item) _ c.in-Some.ensures.steps c.loop-item.invariant.1),
       omega (arith, ap items_len c.in-Some.ensures.steps, c.loop-item.invariant.2),
       (
@@ -64,8 +65,8 @@ pub returns-clause-ok : goal.returns-clause-ok
 returns-clause-ok g c =
     let types = c.args.values.now.types.now in
     let all : c.into_iter-item-iterator.result ≡ items_of c.args.datagram.now = search rules in
-    let none : AreLines types c.args.k c.loop-item.place c.loop-item.item-iterator [] = subst (λ i. AreLines types c.args.k c.loop-item.place i []) (sym c.in-None.ensures.steps.0) refl in
-    rw (← all) (sending_end _ _ _ _ (AreLines types c.args.k c.loop-item.place c.loop-item.item-iterator) (AreLines types c.args.k 0 c.into_iter-item-iterator.result) c.loop-item.invariant.0 none)
+    let none : AreLinesIn c.args.form types c.args.k c.loop-item.place c.loop-item.item-iterator [] = subst (λ i. AreLinesIn c.args.form types c.args.k c.loop-item.place i []) (sym c.in-None.ensures.steps.0) refl in
+    rw (← all) (sending_end _ _ _ _ (AreLinesIn c.args.form types c.args.k c.loop-item.place c.loop-item.item-iterator) (AreLinesIn c.args.form types c.args.k 0 c.into_iter-item-iterator.result) c.loop-item.invariant.0 none)
 
 pub returns-clause-faulty : goal.returns-clause-faulty
 returns-clause-faulty g c =
