@@ -153,12 +153,12 @@ show_capture_taken program (x ∷ []) plain = go (x == 45) refl
     go false e = simp e
 show_capture_taken program (x ∷ (y ∷ ys)) plain = simp plain
 
-pub show_capture_requested : (program capture : Text) → is_flag capture ≡ false → requested (program ∷ codes "show" ∷ capture ∷ []) ≡ Some (show_request capture None None)
+pub show_capture_requested : (program capture : Text) → is_flag capture ≡ false → requested (program ∷ codes "show" ∷ capture ∷ []) ≡ Some (show_request capture None None false)
 unfolding clap_on_literals
 show_capture_requested program [] plain = refl
 show_capture_requested program (x ∷ []) plain = go (x == 45) refl
   where
-    go : (b : Bool) → (x == 45) ≡ b → requested (program ∷ codes "show" ∷ (x ∷ []) ∷ []) ≡ Some (show_request (x ∷ []) None None)
+    go : (b : Bool) → (x == 45) ≡ b → requested (program ∷ codes "show" ∷ (x ∷ []) ∷ []) ≡ Some (show_request (x ∷ []) None None false)
     go true e = simp e
     go false e = simp e
 show_capture_requested program (x ∷ (y ∷ ys)) plain = simp plain

@@ -41,9 +41,13 @@ flag name = record (new_rule name) { long = Some name; action = Some SetTrue }
 abbrev pub with_filters : App → App
 with_filters command = with_rule (with_rule command (valued (codes "service"))) (valued (codes "types"))
 
--- `show [--service SERVICES] [--types FILE] CAPTURE`
+-- the command with the option that asks for JSON objects
+abbrev pub with_json : App → App
+with_json command = with_rule command (flag (codes "json"))
+
+-- `show [--service SERVICES] [--types FILE] [--json] CAPTURE`
 abbrev pub show_usage : Shape
-show_usage = (with_rule (with_filters (new_app (codes "show"))) (required (codes "capture"))).top
+show_usage = (with_rule (with_json (with_filters (new_app (codes "show")))) (required (codes "capture"))).top
 
 -- `payload SHAPE HEX`
 abbrev pub payload_usage : Shape
@@ -53,9 +57,9 @@ payload_usage = (with_rule (with_rule (new_app (codes "payload")) (required (cod
 abbrev pub encode_usage : Shape
 encode_usage = (with_rule (with_rule (new_app (codes "encode")) (required (codes "shape"))) (required (codes "value"))).top
 
--- `vectors FILE`
+-- `vectors [--json] FILE`
 abbrev pub vectors_usage : Shape
-vectors_usage = (with_rule (new_app (codes "vectors")) (required (codes "file"))).top
+vectors_usage = (with_rule (with_json (new_app (codes "vectors"))) (required (codes "file"))).top
 
 -- the command with the two files of a run as its further arguments
 abbrev pub with_inputs : App → App
@@ -170,10 +174,10 @@ pub record AuditRequest : Type 0 where
 
 -- a command, without where its words lie in memory
 pub data Request : Type 0 where
-  show_request : Text → Option Text → Option Text → Request
+  show_request : Text → Option Text → Option Text → Bool → Request
   payload_request : Text → Text → Request
   encode_request : Text → Text → Request
-  vectors_request : Text → Request
+  vectors_request : Text → Bool → Request
   run_request : Text → Text → Option Text → Option Text → Bool → Request
   recording_request : List Text → RecordingRequest → Request
   chart_request : Text → Text → Request
@@ -220,18 +224,24 @@ asked_by_audit_options o = record {
 
 -- what a command asks for
 abbrev pub asked_by_command : Command → Request
-asked_by_command (Show capture service types) = show_request capture.now (text_at service) (text_at types)
+asked_by_command (Show capture service types json) = show_request capture.now (text_at service) (text_at types) json
 asked_by_command (Payload shape hex) = payload_request shape.now hex.now
 asked_by_command (Encode shape value) = encode_request shape.now value.now
-asked_by_command (Vectors file) = vectors_request file.now
+asked_by_command (Vectors file json) = vectors_request file.now json
 asked_by_command (Run setup schedule expect begins lines) = run_request setup.now schedule.now (text_at expect) (text_at begins) lines
 asked_by_command (Recording files options) = recording_request (texts_at files.items) (asked_by_options options)
 asked_by_command (Chart setup schedule) = chart_request setup.now schedule.now
 asked_by_command (Audit files options) = audit_request (texts_at files.items) (asked_by_audit_options options)
 
+-- an option without a value is on where it was given: then its value is that of true
+abbrev pub is_on : Option Text → Bool
+is_on None = false
+is_on (Some value) = bytes_eq value (codes "true")
+
 -- what `show` asks for, by the values of its argument and options
 abbrev pub asked_by_show : (Text → Option Text) → Option Request
-asked_by_show value = option_map (λ capture. show_request capture (value (codes "service")) (value (codes "types"))) (value (codes "capture"))
+asked_by_show value =
+    option_map (λ capture. show_request capture (value (codes "service")) (value (codes "types")) (is_on (value (codes "json")))) (value (codes "capture"))
 
 -- what `payload` asks for
 abbrev pub asked_by_payload : (Text → Option Text) → Option Request
@@ -243,16 +253,11 @@ asked_by_encode value = option_and_then (λ shape. option_map (encode_request sh
 
 -- what `vectors` asks for
 abbrev pub asked_by_vectors : (Text → Option Text) → Option Request
-asked_by_vectors value = option_map vectors_request (value (codes "file"))
+asked_by_vectors value = option_map (λ file. vectors_request file (is_on (value (codes "json")))) (value (codes "file"))
 
 -- all values of an argument, of all its uses
 abbrev pub values_of : Found → Text → List Text
 values_of found id = unwrap_or (option_map raw_values (matched_of found id)) []
-
--- an option without a value is on where it was given: then its value is that of true
-abbrev pub is_on : Option Text → Bool
-is_on None = false
-is_on (Some value) = bytes_eq value (codes "true")
 
 -- what `run` asks for
 abbrev pub asked_by_run : (Text → Option Text) → Option Request

@@ -29,6 +29,8 @@ pub enum Command<'w> {
         service: Option<&'w str>,
         /// The path of a types file, as it was given.
         types: Option<&'w str>,
+        /// Whether each line is to be a JSON object.
+        json: bool,
     },
     /// Read a payload by its shape.
     Payload {
@@ -48,6 +50,8 @@ pub enum Command<'w> {
     Vectors {
         /// The file's path, as it was given.
         file: &'w str,
+        /// Whether each line is to be a JSON object.
+        json: bool,
     },
     /// Run a schedule over the nodes of a setup.
     Run {
@@ -259,6 +263,7 @@ fn show_matched<'w>(matches: &ArgMatches<'w>) -> Option<Command<'w>>
         capture,
         service: matches.get_str("service"),
         types: matches.get_str("types"),
+        json: is_given(matches, "json"),
     })
 }
 
@@ -282,7 +287,10 @@ fn vectors_matched<'w>(matches: &ArgMatches<'w>) -> Option<Command<'w>>
     ensures { option_map asked_by_command result ≡ asked_by_vectors (first_value (found_of matches.now)) }
 {
     let file = matches.get_str("file")?;
-    Some(Command::Vectors { file })
+    Some(Command::Vectors {
+        file,
+        json: is_given(matches, "json"),
+    })
 }
 
 fn run_matched<'w>(matches: &ArgMatches<'w>) -> Option<Command<'w>>

@@ -8,7 +8,8 @@ ghost use Rattle.clap.specs.declared.builder.Command.TheViews.{out-Command};
 ghost use Rattle.someipctl_cli.specs.CommandLine.{audit_usage, chart_usage, cli, encode_usage, payload_usage, program};
 ghost use Rattle.someipctl_cli.specs.CommandLine.{recording_usage, run_usage, show_usage, vectors_usage};
 ghost use Rattle.someipctl_cli.specs.CommandLine.{flag as flag_rule, required, required_many, valued};
-ghost use Rattle.someipctl_cli.specs.CommandLine.{with_choice, with_filters, with_findings, with_heads, with_inputs, with_packets};
+ghost use Rattle.someipctl_cli.specs.CommandLine.{with_choice, with_filters, with_findings, with_heads, with_inputs, with_json};
+ghost use Rattle.someipctl_cli.specs.CommandLine.{with_packets};
 ghost use Rattle.someipctl_cli.specs.CommandLine.{with_whole};
 
 use crate::examples::{
@@ -65,7 +66,8 @@ fn show_definition<'d>(alloc: Global) -> Result<clap::Command<'d>, AllocError>
         .about("Prints the messages of a capture, one a line")
         .after_help(SHOW_EXAMPLE);
     let capture = explained(alloc, "capture", "CAPTURE", "The path of a capture");
-    taking(add_filters(alloc, Ok(command)), capture)
+    let filtered = add_filters(alloc, Ok(command));
+    taking(add_json(alloc, filtered), capture)
 }
 
 fn payload_definition<'d>(alloc: Global) -> Result<clap::Command<'d>, AllocError>
@@ -98,7 +100,7 @@ fn vectors_definition<'d>(alloc: Global) -> Result<clap::Command<'d>, AllocError
         .about("Compares what is printed with what a file expects")
         .after_help(VECTORS_EXAMPLE);
     let file = explained(alloc, "file", "FILE", "The path of a file of vectors");
-    taking(Ok(command), file)
+    taking(add_json(alloc, Ok(command)), file)
 }
 
 fn run_definition<'d>(alloc: Global) -> Result<clap::Command<'d>, AllocError>
@@ -252,6 +254,20 @@ fn add_filters<'d>(
         "Prints the values of the payloads whose shapes this file tells",
     );
     taking(taking(command, service), types)
+}
+
+/// The command with the option that asks for JSON objects.
+fn add_json<'d>(
+    alloc: Global,
+    command: Result<clap::Command<'d>, AllocError>,
+) -> Result<clap::Command<'d>, AllocError>
+    ensures app { (app : App) → IfOk command.entry (λ c. app_of c ≡ app)
+        → IfOk result (λ r. app_of r ≡ with_json app) }
+    ensures local { IfOk command.entry (λ c. (out-Command c).has_globals ≡ false)
+        → IfOk result (λ r. (out-Command r).has_globals ≡ false) }
+{
+    let json = flag(alloc, "json", "Prints each line as a JSON object");
+    taking(command, json)
 }
 
 /// The command with the options that say what stands before each line.

@@ -19,20 +19,20 @@ pub fn words_show_any_capture()
     ensures taken { (program capture : List ℕ) → is_flag capture ≡ false
         → IsTaken (program ∷ codes "show" ∷ capture ∷ []) }
     ensures matched { (program capture : List ℕ) → is_flag capture ≡ false
-        → requested (program ∷ codes "show" ∷ capture ∷ []) ≡ Some (show_request capture None None) }
+        → requested (program ∷ codes "show" ∷ capture ∷ []) ≡ Some (show_request capture None None false) }
 {}
 
 /// What some calls of the program come to.
 pub fn calls_by_example()
     ensures show { requested (line (codes "show" ∷ codes "x" ∷ []))
-        ≡ Some (show_request (codes "x") None None) }
+        ≡ Some (show_request (codes "x") None None false) }
 
     // A value that begins with a hyphen stands behind two hyphens.
     ensures encode { requested (line (codes "encode" ∷ codes "i8" ∷ codes "--" ∷ codes "-1" ∷ []))
         ≡ Some (encode_request (codes "i8") (codes "-1")) }
 
     ensures vectors { requested (line (codes "vectors" ∷ codes "x" ∷ []))
-        ≡ Some (vectors_request (codes "x")) }
+        ≡ Some (vectors_request (codes "x") false) }
 
     ensures run { requested (line (codes "run" ∷ codes "x" ∷ codes "y" ∷ []))
         ≡ Some (run_request (codes "x") (codes "y") None None false) }
@@ -44,7 +44,10 @@ pub fn calls_by_example()
         ≡ Some (run_request (codes "x") (codes "y") None (Some (codes "t")) false) }
 
     ensures show_options { requested (line (codes "show" ∷ codes "--service" ∷ codes "1111" ∷ codes "--types" ∷ codes "t"
-        ∷ codes "x" ∷ [])) ≡ Some (show_request (codes "x") (Some (codes "1111")) (Some (codes "t"))) }
+        ∷ codes "x" ∷ [])) ≡ Some (show_request (codes "x") (Some (codes "1111")) (Some (codes "t")) false) }
+
+    ensures json { requested (line (codes "show" ∷ codes "x" ∷ codes "--json" ∷ []))
+        ≡ Some (show_request (codes "x") None None true) }
 
     ensures recording { requested (line (codes "recording" ∷ codes "x" ∷ []))
         ≡ Some (recording_request (codes "x" ∷ []) (recording_options_of no_packets no_choice None None None None None None

@@ -14,7 +14,7 @@ use recording::Time;
 use recording_packets::ChosenPackets;
 use someip_tp::IntervalPool;
 use someip_world::Setup;
-use someipctl_io::Outcome;
+use someipctl_io::{Form, Outcome};
 use someipctl_recordings::audit::{AuditAsked, rules_in, show_audit};
 use someipctl_recordings::choice::{client_in, time_in};
 use someipctl_recordings::lists::{addresses_in, numbers_in};
@@ -29,9 +29,9 @@ use someipctl_run::{
 use someipctl_show::encode::encode;
 use someipctl_show::payload::payload;
 use someipctl_show::services::{AskedService, services_in};
-use someipctl_show::show::show;
+use someipctl_show::show::show_in;
 use someipctl_show::types::{MessageTypes, read_types};
-use someipctl_show::vectors::vectors;
+use someipctl_show::vectors::vectors_in;
 use std::io::ErrorKind;
 use std::rt::{Env, Files};
 use std::{env, fs, io};
@@ -134,7 +134,8 @@ fn run_command<'w, R: Files + Print + Eprint + Input + AllocGlobal>(
             capture,
             service,
             types,
-        } => show_file(rt, capture, service, types),
+            json,
+        } => show_file(rt, capture, service, types, line_form(json)),
         Command::Payload { shape, hex } => {
             let told = payload(rt.alloc(), shape, hex, &mut io::writer(rt));
             // No file is read, so none is named.
@@ -144,7 +145,7 @@ fn run_command<'w, R: Files + Print + Eprint + Input + AllocGlobal>(
             let told = encode(rt.alloc(), shape, value, &mut io::writer(rt));
             told.map_err(|fault| Failure::of(fault.map(Refusal::Payload), ""))
         }
-        Command::Vectors { file } => judge_file(rt, file),
+        Command::Vectors { file, json } => judge_file(rt, file, line_form(json)),
         Command::Run {
             setup,
             schedule,
@@ -166,15 +167,21 @@ fn show_file<'p, R: Files + Print + AllocGlobal>(
     path: &'p str,
     service: Option<&'p str>,
     types: Option<&'p str>,
+    form: Form,
 ) -> Result<Outcome, Failure<'p>> {
     let services = services_of(rt, service, SHOW_USAGE)?;
     let types = types_at(rt, types)?;
     let mut file = open_file(rt, path)?;
     let asked = services.as_deref();
-    show(rt.alloc(), &mut file, asked, &types, &mut io::writer(rt)).map_err(|fault| Failure::of(
-        fault.map(Refusal::Capture),
-        path,
-    ))
+    let shown = show_in(
+        rt.alloc(),
+        form,
+        &mut file,
+        asked,
+        &types,
+        &mut io::writer(rt),
+    );
+    shown.map_err(|fault| Failure::of(fault.map(Refusal::Capture), path))
 }
 
 /// Shows recordings, and then tells on standard error what was left out of them, and their fault, if they have
@@ -484,12 +491,21 @@ fn types_at<'p, R: Files + AllocGlobal>(
 fn judge_file<'p, R: Files + Print + AllocGlobal>(
     rt: &R,
     path: &'p str,
+    form: Form,
 ) -> Result<Outcome, Failure<'p>> {
     let mut file = open_file(rt, path)?;
-    vectors(rt.alloc(), &mut file, &mut io::writer(rt)).map_err(|fault| Failure::of(
+    vectors_in(rt.alloc(), form, &mut file, &mut io::writer(rt)).map_err(|fault| Failure::of(
         fault.map(Refusal::Vectors),
         path,
     ))
+}
+
+/// The form of lines, by whether JSON objects are asked for.
+fn line_form(json: bool) -> Form
+    ensures objects { json ≡ true → result ≡ Form.Json }
+    ensures plain { json ≡ false → result ≡ Form.Plain }
+{
+    if json { Form::Json } else { Form::Plain }
 }
 
 /// The form of a trace, by whether the lines of the schedule are shown.

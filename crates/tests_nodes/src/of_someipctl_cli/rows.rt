@@ -6,6 +6,7 @@ use someipctl_cli::{ChoiceOptions, Command, PacketOptions, RecordingOptions};
 pub enum Call {
     Vectors {
         file: &'static str,
+        json: bool,
     },
     Run {
         setup: &'static str,
@@ -18,6 +19,7 @@ pub enum Call {
         capture: &'static str,
         service: Option<&'static str>,
         types: Option<&'static str>,
+        json: bool,
     },
     Payload {
         shape: &'static str,
@@ -33,7 +35,7 @@ impl Call {
     /// The command itself.
     pub fn command(&self) -> Command<'static> {
         match self {
-            Vectors { file } => Command::Vectors { file },
+            Vectors { file, json } => Command::Vectors { file, json: *json },
             Run {
                 setup,
                 schedule,
@@ -51,10 +53,12 @@ impl Call {
                 capture,
                 service,
                 types,
+                json,
             } => Command::Show {
                 capture,
                 service: *service,
                 types: *types,
+                json: *json,
             },
             Payload { shape, hex } => Command::Payload { shape, hex },
             Chart { setup, schedule } => Command::Chart { setup, schedule },
@@ -170,8 +174,20 @@ pub const RECORDINGS: &[RecordingRow] = &[
 
 /// Calls of the commands that read a file.
 pub const ROWS: &[Row] = &[
-    ("someipctl|vectors|x", Vectors { file: "x" }),
-    ("someipctl|vectors|-", Vectors { file: "-" }),
+    (
+        "someipctl|vectors|x",
+        Vectors {
+            file: "x",
+            json: false,
+        },
+    ),
+    (
+        "someipctl|vectors|-|--json",
+        Vectors {
+            file: "-",
+            json: true,
+        },
+    ),
     (
         "someipctl|run|x|y",
         Run {
@@ -219,6 +235,7 @@ pub const SHOWING: &[Row] = &[
             capture: "x",
             service: None,
             types: None,
+            json: false,
         },
     ),
     (
@@ -227,14 +244,16 @@ pub const SHOWING: &[Row] = &[
             capture: "x",
             service: Some("1111.8001,2222"),
             types: Some("t"),
+            json: false,
         },
     ),
     (
-        "someipctl|show|x|--types=|--service=",
+        "someipctl|show|x|--types=|--json|--service=",
         Show {
             capture: "x",
             service: Some(""),
             types: Some(""),
+            json: true,
         },
     ),
     (
@@ -243,6 +262,7 @@ pub const SHOWING: &[Row] = &[
             capture: "-",
             service: None,
             types: None,
+            json: false,
         },
     ),
     (
@@ -251,6 +271,7 @@ pub const SHOWING: &[Row] = &[
             capture: "",
             service: None,
             types: None,
+            json: false,
         },
     ),
     (
@@ -259,6 +280,7 @@ pub const SHOWING: &[Row] = &[
             capture: "help",
             service: None,
             types: None,
+            json: false,
         },
     ),
     (
@@ -267,6 +289,7 @@ pub const SHOWING: &[Row] = &[
             capture: "-x",
             service: None,
             types: None,
+            json: false,
         },
     ),
     (
@@ -275,6 +298,7 @@ pub const SHOWING: &[Row] = &[
             capture: "a b",
             service: None,
             types: None,
+            json: false,
         },
     ),
     (

@@ -12,6 +12,7 @@ returns c = record {
   run_options = refl;
   run_begins = refl;
   show_options = refl;
+  json = refl;
   recording = refl;
   recording_options = refl;
   files = refl;
