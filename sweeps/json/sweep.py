@@ -1,0 +1,188 @@
+#!/usr/bin/env python3
+"""json: the lines of `show` and `vectors`, plain and as JSON objects.
+
+sweep.py PROGRAM calls the built program on each capture and each file of vectors of the trials, with `--json` and
+without. Each plain line has to have one object, in order, under one key each. From each object the plain line is made
+again; of a value only its numbers and texts are compared. The status has to be the same. Where Python has the package
+`jsonschema`, each object has to fit docs/json-lines.schema.json.
+"""
+import json
+import os
+import re
+import subprocess
+import sys
+
+HERE = os.path.dirname(os.path.abspath(__file__))
+TOP = f"{HERE}/../.."
+DATA = f"{TOP}/crates/someipctl_trials/data"
+
+try:
+    import jsonschema
+except ImportError:
+    jsonschema = None
+
+
+def digit(flag):
+    return "1" if flag else "0"
+
+
+def message(line):
+    return (f"{line['kind']} {line['service']}.{line['method']} length {line['length']} client {line['client']} "
+            f"session {line['session']} interface {line['interface']} type {line['type']} code {line['code']} "
+            f"payload {line['payload'] or '-'}")
+
+
+
+def option(it):
+    name = it["option"]
+    if name == "load":
+        return f"load {it['priority']} {it['weight']}"
+    if name == "unknown":
+        return f"unknown {it['type']} {it['bytes'] or '-'}"
+    return f"{name} {it['address']}:{it['port']} {it['protocol']}"
+
+
+def runs(line):
+    if "badrun" in line:
+        return "badrun"
+    return " ".join(f"{run} [{', '.join(map(option, line[run]))}]" for run in ("run1", "run2"))
+
+
+def entry(line):
+    head = f"{line['kind']} {line['service']}.{line['instance']} major {line['major']} ttl {line['ttl']}"
+    if "group" in line:
+        return f"{head} counter {line['counter']} group {line['group']} {runs(line)}"
+    return f"{head} minor {line['minor']} {runs(line)}"
+
+
+PLAIN = {
+    "message": message,
+    "segment": lambda line: f"segment offset {line['offset']} more {digit(line['more'])} bytes {line['bytes']}",
+    "sd": lambda line: (f"sd reboot {digit(line['reboot'])} unicast {digit(line['unicast'])} "
+                        f"entries {line['entries']}"),
+    "empty": lambda line: "empty",
+    "fault": lambda line: f"fault {line['name']} at {line['at']}",
+    **dict.fromkeys(("find", "offer", "stopoffer", "subscribe", "stopsubscribe", "ack", "nack"), entry),
+}
+
+
+def unique(pairs):
+    """An object whose keys differ."""
+    made = dict(pairs)
+    if len(made) != len(pairs):
+        raise ValueError("a key comes twice")
+    return made
+
+
+class Number(str):
+    """A number by its digits."""
+
+
+def scalars(value):
+    """The numbers and texts of a value in order, by their texts; names are not among them."""
+    if isinstance(value, dict):
+        return [text for part in value.values() for text in scalars(part)]
+    if isinstance(value, list):
+        return [text for part in value for text in scalars(part)]
+    return [str(value)]
+
+
+def told(text):
+    """Those of a plain value line."""
+    return re.findall(r"-?[0-9][0-9.e+-]*", text)
+
+
+def is_value(line, plain):
+    """Whether a value's object and its plain line tell the same numbers, and the same fault."""
+    if "fault" in line:
+        return plain.endswith(f"fault {line['fault']} at {line['at']}")
+    wanted = [text for it in scalars(line["value"]) for text in told(it)]
+    return all(text in plain for text in wanted)
+
+
+def is_same(line, plain, number):
+    kind = line.get("kind")
+    if next(iter(line)) != "kind":
+        return False
+    if kind == "vector":
+        return f"vector {line['vector']} {line['result']}" in plain or plain == f"{line['vector']} {line['result']}"
+    if kind == "passed":
+        return str(line["passed"]) in plain and str(line["of"]) in plain
+    if line["datagram"] != number:
+        return False
+    if kind == "value":
+        return is_value(line, plain)
+    return PLAIN[kind](line) == plain
+
+
+class Sweep:
+    def __init__(self, program):
+        self.program = os.path.abspath(program)
+        self.lines = self.findings = self.cases = 0
+        self.schema = None
+        if jsonschema:
+            with open(f"{TOP}/docs/json-lines.schema.json", encoding="utf8") as file:
+                self.schema = jsonschema.Draft202012Validator(json.load(file))
+
+    def tell(self, words, what):
+        self.findings += 1
+        print(f"json: {' '.join(words)}: {what}")
+
+    def run(self, words):
+        ended = subprocess.run([self.program, *words], cwd=DATA, capture_output=True, timeout=60)
+        return ended.returncode, ended.stdout.decode("utf8").splitlines(), ended.stderr
+
+    def judge(self, command, *words):
+        self.cases += 1
+        plain, objects = self.run([command, *words]), self.run([command, "--json", *words])
+        call = [command, *words]
+        if (plain[0], plain[2]) != (objects[0], objects[2]):
+            return self.tell(call, f"status {objects[0]}, and plain {plain[0]}")
+        if len(plain[1]) != len(objects[1]):
+            return self.tell(call, f"{len(objects[1])} objects, and {len(plain[1])} lines")
+        for one, other in zip(plain[1], objects[1]):
+            self.lines += 1
+            self.judge_line(call, command, one, other)
+        return None
+
+    def judge_line(self, call, command, plain, text):
+        try:
+            line = json.loads(text, object_pairs_hook=unique, parse_int=Number, parse_float=Number)
+        except ValueError as fault:
+            return self.tell(call, f"{text[:100]}: {fault}")
+        number, _, rest = plain.partition(" ")
+        if command == "vectors":
+            number, rest = None, plain
+        try:
+            fits = is_same(line, rest, number)
+        except (KeyError, TypeError) as fault:
+            fits = False
+            rest += f" ({fault!r})"
+        if not fits:
+            return self.tell(call, f"{text[:160]}, and plain {plain[:160]} {rest[-40:]}")
+        if self.schema:
+            for fault in self.schema.iter_errors(json.loads(text)):
+                return self.tell(call, f"{text[:160]}: {fault.message[:160]}")
+        return None
+
+
+def calls():
+    """The calls of `show` and `vectors` among the cases of the trials."""
+    with open(f"{DATA}/cases", encoding="utf8") as file:
+        for line in file:
+            words = line.split()
+            if words and words[0] in ("show", "vectors"):
+                yield words
+
+
+def main():
+    sweep = Sweep(sys.argv[1])
+    for words in calls():
+        sweep.judge(*words)
+    told_by = "no finding" if not sweep.findings else f"{sweep.findings} findings"
+    print(f"json: {sweep.cases} calls, {sweep.lines} lines: {told_by}")
+    sys.exit(1 if sweep.findings else 0)
+
+
+if __name__ == "__main__":
+    main()
