@@ -171,7 +171,7 @@ def calls():
     with open(f"{DATA}/cases", encoding="utf8") as file:
         for line in file:
             words = line.split()
-            if words and words[0] in ("show", "vectors"):
+            if words and words[0] in ("show", "vectors") and "--json" not in words:
                 yield words
 
 

@@ -19,8 +19,8 @@ HELP = (
     # What a command does, its options with the defaults of FORMATS, and its example.
     ("someipctl|help|audit", "Prints what recordings of network traffic show against the protocol\n\n"
      "Usage: someipctl audit [OPTIONS] <FILE>...\n"),
-    ("someipctl|help|audit", "      --answer-ms <N>  The milliseconds that an answer may take, 2000 without it\n"),
-    ("someipctl|help|audit", "      --settle-ms <N>  The milliseconds at first in which no event without a "
+    ("someipctl|help|audit", "      --answer-ms <N>       The milliseconds that an answer may take, 2000 without it\n"),
+    ("someipctl|help|audit", "      --settle-ms <N>       The milliseconds at first in which no event without a "
      "subscription is told, 10000 without it\n"),
     ("someipctl|help|audit", "  someipctl audit examples/audit.pcap\n"),
     ("someipctl|help|chart", "Draws a run of a schedule over the nodes of a setup, as an SVG picture\n\nUsage: "),

@@ -130,8 +130,9 @@ came from and went to. With --frames #1 stands before it, the number of the pack
 
 /// Of `audit`.
 pub(crate) const AUDIT_EXAMPLE: &str = "\
-FILE, N of --interface, ID and MS are those of `recording`. Datagrams from or to port 30490 are looked
-at, and beside these those at the endpoints that Offers and Subscribes before named, or at PORTS. A line
+FILE, SERVICES, A, C, TIME, N of --interface, ID and MS are those of `recording`. Datagrams from or to
+port 30490 are looked at, and beside these those at the endpoints that Offers and Subscribes before named,
+or at PORTS. SERVICES, A, C and TIME choose lines, and not what is looked at. A line
 is printed for each thing that is not as it should be, as it is read, and at last the summary. A line is
   TIME K FROM TO FINDING
 where TIME is in seconds since 1970, - where the recording has none, and K is the number of the datagram
