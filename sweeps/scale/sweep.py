@@ -3,7 +3,8 @@
 
 `edges`, in seconds: a recording that comes a byte at a time, one whose reads are all interrupted once, both together;
 65,536 interfaces of a section and one more; a packet and a block of 16 MiB, and of one byte or word more; a copy behind
-16 MiB of other packets, which are kept to compare, and behind one byte more; fragments of 64 packets, and of 65.
+16 MiB of other packets, which are kept to compare, and behind one byte more; fragments of 64 packets, and of 65; 65,536
+endpoints that Offers name, and one more (of `recording` alone).
 
 `scale`: 5 GiB, and 3 million records. Each recording is made as it is read, and ends with one datagram, whose line has
 to be there: so all of it was read.
@@ -23,6 +24,7 @@ from typing import Callable, NamedTuple
 HELD = 16 * 1024 * 1024
 INTERFACES = 65536
 OTHERS = 4096
+ENDPOINTS = 65536
 LINE = "{} message 1111.0001 length 8 client 0000 session 0001 interface 01 type REQUEST_NO_RETURN code 00 payload -\n"
 AUDITED = "audited {0} datagrams, {0} messages, 0 findings\n"
 
@@ -35,13 +37,19 @@ def checksum(data):
 
 
 MESSAGE = struct.pack(">HHIHHBBBB", 0x1111, 1, 8, 0, 1, 1, 1, 1, 0)
-UDP = struct.pack(">HHHH", 40001, 30509, 8 + len(MESSAGE), 0) + MESSAGE
 
 
-def ipv4(payload, identification=0, fragment=0, protocol=17):
+def udp(source, destination, payload):
+    return struct.pack(">HHHH", source, destination, 8 + len(payload), 0) + payload
+
+
+UDP = udp(40001, 30509, MESSAGE)
+
+
+def ipv4(payload, identification=0, fragment=0, protocol=17, receiver=(192, 168, 0, 1)):
     """An Ethernet packet with an IPv4 packet."""
     head = struct.pack(">BBHHHBBH", 0x45, 0, 20 + len(payload), identification, fragment, 64, protocol, 0)
-    ends = bytes((192, 168, 0, 2, 192, 168, 0, 1))
+    ends = bytes((192, 168, 0, 2, *receiver))
     head = head[:10] + struct.pack(">H", checksum(head[:10] + b"\0\0" + ends)) + ends
     return bytes(12) + b"\x08\x00" + head + payload
 
@@ -49,6 +57,17 @@ def ipv4(payload, identification=0, fragment=0, protocol=17):
 def datagram():
     """An Ethernet packet with a message that waits for no answer."""
     return ipv4(UDP)
+
+
+def offers(first, count):
+    """An Ethernet packet with an Offer for each of so many endpoints: 10.0.0.0 with this number added, port 30509."""
+    entries = b"".join(struct.pack(">BBBBHHII", 1, index, 0, 0x10, 0x2222, index, 0x01000003, 0)
+                       for index in range(count))
+    options = b"".join(struct.pack(">HBBIBBH", 9, 4, 0, (10 << 24) + first + index, 0, 17, 30509)
+                       for index in range(count))
+    body = struct.pack(">II", 0xC0000000, len(entries)) + entries + struct.pack(">I", len(options)) + options
+    head = struct.pack(">HHIHHBBBB", 0xFFFF, 0x8100, 8 + len(body), 0, 1, 1, 1, 2, 0)
+    return ipv4(udp(30490, 30490, head + body))
 
 
 def other(length):
@@ -113,6 +132,13 @@ def fragments(count):
     return [classic(), *first, *(packet(ipv4(UDP[8:], number, 1)) for number in reversed(range(count)))]
 
 
+def endpoints(count):
+    """Offers of so many endpoints, a datagram to an endpoint that none names, and one to the first that is named."""
+    for first in range(0, count, 256):
+        yield packet(offers(first, min(256, count - first)))
+    yield packet(datagram()) + packet(ipv4(UDP, receiver=(10, 0, 0, 0)))
+
+
 def many(count, length):
     """A recording of so many packets of this length, and the datagram, piece by piece."""
     yield classic()
@@ -134,7 +160,7 @@ def left_out(count):
 
 class Case(NamedTuple):
     """What is tried: its name, kilobytes of memory, what is set, the recording, what is told on standard error, how
-    often the datagram is reached, and words of the call."""
+    often the datagram is reached, words of the call, and whether `audit` is tried too."""
     name: str
     kilobytes: int
     variables: dict
@@ -142,6 +168,7 @@ class Case(NamedTuple):
     told: str
     reached: int
     words: tuple = ()
+    is_audited: bool = True
 
 
 def edges(odd):
@@ -168,6 +195,10 @@ def edges(odd):
     yield Case("fragments of 64 packets", 40_000, {}, lambda: fragments(64), "", 64)
     yield Case("fragments of 65 packets", 40_000, {}, lambda: fragments(65),
                "recording: left out 2 fragments without the rest\n", 64)
+    learned = ("--learned", "--service", "1111")
+    yield Case("65536 endpoints", 60_000, {}, lambda: [classic(), *endpoints(ENDPOINTS)], "", 1, learned, False)
+    yield Case("65537 endpoints", 60_000, {}, lambda: [classic(), *endpoints(ENDPOINTS + 1)],
+               "recording: full endpoints\n", 2, learned, False)
 
 
 def scale(odd):
@@ -210,7 +241,10 @@ def main():
         subprocess.run(["cc", "-shared", "-fPIC", "-O1", source, "-o", odd, "-ldl"], check=True)
         for case in {"edges": edges, "scale": scale}[part](odd):
             lines = "".join(LINE.format(number + 1) for number in range(case.reached))
-            for words, text in ((["recording"], lines), (["audit", "--ports", "30509"], AUDITED.format(case.reached))):
+            calls = [(["recording"], lines)]
+            if case.is_audited:
+                calls.append((["audit", "--ports", "30509"], AUDITED.format(case.reached)))
+            for words, text in calls:
                 status = 0 if case.reached else 1
                 came = run(program, [*words, *case.words, "-"], case.kilobytes, case.variables, case.pieces())
                 cases += 1
