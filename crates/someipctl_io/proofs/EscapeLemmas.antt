@@ -1,6 +1,6 @@
 -- Texts of which no byte is escaped between quotes.
 use Rattle.std.proofs.Common.{◌≡◌, ℕ, zero, suc, ◌<◌, ◌≤◌, ◌^◌, ◌/◌, ◌%◌, List, [], ◌∷◌, ◌++◌, decimal, codes, refl, sym, ap, ap₂, ◌∙◌, arith, append_assoc, Bool, true, ◌&&◌, ◌==◌, ◌||◌, inl, inr, eq-eqb}
-use Rattle.std.specs.Prelude.{slice_index, nat_le, nat_lt, not}
+use Rattle.std.specs.Prelude.{◌+◌, drop, slice_index, nat_le, nat_lt, not}
 use Rattle.std.specs.Char.{digit_char}
 use Rattle.std.specs.Int.{w16, to_be_bytes}
 use Rattle.std.specs.List.{list_all}
@@ -16,6 +16,7 @@ use Rattle.json.specs.Run.{is_plain}
 use Rattle.json.proofs.Printed.Strings.{escape_byte_plain}
 use Rattle.someip_texts.specs.Numbers.{is_digit}
 use Rattle.someip_texts.specs.Words.{hex2, hex4}
+use Rattle.someipctl_io.specs.Parts.{nine_digits, seconds_text}
 use Rattle.someip_texts.proofs.NumberLemmas.{decimal_digits}
 
 pub quoted-plain : (text : List ℕ) → escape text ≡ text → 34 ∷ (text ++ 34 ∷ []) ≡ quoted text
@@ -49,6 +50,14 @@ digit_byte x h =
 
 pub escape-decimal : (n : ℕ) → n < 2 ^ 64 → escape (decimal n) ≡ decimal n
 escape-decimal n fits = by_test is_digit digit_byte (decimal n) (decimal_digits n fits)
+
+all_behind : (p : ℕ → Bool) (xs : List ℕ) → list_all p xs ≡ true → list_all p (drop 1 xs) ≡ true
+all_behind p [] h = refl
+all_behind p (x ∷ xs) h = (and_parts (p x) (list_all p xs) h).1
+
+escape-nine : (n : ℕ) → n < 2 ^ 32 → escape (nine_digits n) ≡ nine_digits n
+escape-nine n fits =
+    by_test is_digit digit_byte (nine_digits n) (all_behind is_digit (decimal (1000000000 + n)) (decimal_digits (1000000000 + n) (omega (arith, fits))))
 
 -- ---- hex digits
 
@@ -126,6 +135,13 @@ escape-socket e h port =
     let a = ipv4_text (ipv4_octets (v4_ip e)) in
     let nested : socket_v4_text e ≡ a ++ 58 ∷ decimal (v4_port e) = append_assoc a (codes ":") (decimal (v4_port e)) in
     ap escape nested ∙ by_colon a (decimal (v4_port e)) (escape-ipv4 (ipv4_octets (v4_ip e)) h) (escape-decimal (v4_port e) (omega (arith, port))) ∙ sym nested
+
+-- ---- times
+
+pub escape-seconds : (seconds nanoseconds : ℕ) → seconds < 2 ^ 64 → nanoseconds < 2 ^ 32 → escape (seconds_text seconds nanoseconds) ≡ seconds_text seconds nanoseconds
+escape-seconds seconds nanoseconds fits low =
+    let nested : seconds_text seconds nanoseconds ≡ decimal seconds ++ 46 ∷ nine_digits nanoseconds = append_assoc (decimal seconds) (codes ".") (nine_digits nanoseconds) in
+    ap escape nested ∙ by_dot (decimal seconds) (nine_digits nanoseconds) (escape-decimal seconds fits) (escape-nine nanoseconds low) ∙ sym nested
 
 -- ---- control characters
 

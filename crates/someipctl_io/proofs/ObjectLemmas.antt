@@ -16,7 +16,7 @@ use Rattle.someipctl_io.specs.declared.form.Form.TheVariants.{Json}
 use Rattle.someipctl_io.specs.Options.{protocol_text}
 use Rattle.someipctl_io.specs.JsonTexts.{items_text, json_text, key_text, other_items_text, other_members_text}
 use Rattle.someipctl_io.specs.OptionObjects.{endpoint_end, endpoint_members, load_members, named_option, option_items, option_json, raw_members}
-use Rattle.someipctl_io.specs.ToldLines.{Content, text, number, id, byte, bytes, flag, mark, nothing, address, endpoint, options, value, HasNumber, HaveNumbers, ToldField, ToldHead, ToldLine, begin_text, end_text, content_json, field_members, field_text, fields_text, line_json, line_text}
+use Rattle.someipctl_io.specs.ToldLines.{Content, text, number, id, byte, bytes, flag, mark, nothing, address, endpoint, time, options, value, HasNumber, HaveNumbers, ToldField, ToldHead, ToldLine, begin_text, end_text, content_json, field_members, field_text, fields_text, line_json, line_text}
 use Rattle.someipctl_io.specs.ToldItems.{value_lines}
 use Rattle.someipctl_io.proofs.ValueLemmas.{value-numbers}
 use Rattle.someipctl_io.proofs.EscapeLemmas.{escape-hex, escape-hex2, escape-ipv4}
@@ -91,18 +91,21 @@ others-fields (f ∷ fs) =
     ap (λ (t : List ℕ). codes "," ++ (key_text f.key ++ (json_text (content_json f.content) ++ t))) (others-fields fs)
     ∙ ap (λ (t : List ℕ). codes "," ++ t) (sym (append_assoc (key_text f.key) (json_text (content_json f.content)) (fields_text Json fs)))
 
-line-shape : (q a b c : List ℕ)
-    → ((codes "{\"kind\":" ++ q) ++ (a ++ b)) ++ (c ++ codes "}\n") ≡ (codes "{" ++ ((key_text (codes "kind") ++ (q ++ (a ++ (b ++ c)))) ++ codes "}")) ++ codes "\n"
+line-shape : (q a b p c : List ℕ)
+    → ((codes "{\"kind\":" ++ q) ++ (a ++ (b ++ p))) ++ (c ++ codes "}\n") ≡ (codes "{" ++ ((key_text (codes "kind") ++ (q ++ (a ++ (b ++ (p ++ c))))) ++ codes "}")) ++ codes "\n"
 unfolding escape_byte
-line-shape q a b c = simp append_assoc
+line-shape q a b p c = simp append_assoc
 
 pub line-object : (head : ToldHead) (line : ToldLine) → line_text Json head line ≡ json_text (line_json head line) ++ codes "\n"
 line-object head line =
     let f = field_text Json in
-    let all : other_members_text (field_members (head.number ++ (head.origin ++ line.fields))) ≡ fields_text Json head.number ++ (fields_text Json head.origin ++ fields_text Json line.fields) =
-    others-fields (head.number ++ (head.origin ++ line.fields)) ∙ flat_map-append f head.number (head.origin ++ line.fields)
-    ∙ ap (λ (t : List ℕ). fields_text Json head.number ++ t) (flat_map-append f head.origin line.fields) in
-    line-shape (quoted line.kind) (fields_text Json head.number) (fields_text Json head.origin) (fields_text Json line.fields)
+    let behind = head.place ++ line.fields in
+    let all : other_members_text (field_members (head.number ++ (head.origin ++ behind)))
+        ≡ fields_text Json head.number ++ (fields_text Json head.origin ++ (fields_text Json head.place ++ fields_text Json line.fields)) =
+    others-fields (head.number ++ (head.origin ++ behind)) ∙ flat_map-append f head.number (head.origin ++ behind)
+    ∙ ap (λ (t : List ℕ). fields_text Json head.number ++ t)
+    (flat_map-append f head.origin behind ∙ ap (λ (t : List ℕ). fields_text Json head.origin ++ t) (flat_map-append f head.place line.fields)) in
+    line-shape (quoted line.kind) (fields_text Json head.number) (fields_text Json head.origin) (fields_text Json head.place) (fields_text Json line.fields)
     ∙ ap (λ (t : List ℕ). (codes "{" ++ ((key_text (codes "kind") ++ (quoted line.kind ++ t)) ++ codes "}")) ++ codes "\n") (sym all)
 
 -- each field has its numbers
@@ -117,6 +120,7 @@ content-numbers mark h = tt
 content-numbers nothing h = tt
 content-numbers (address a) h = tt
 content-numbers (endpoint e) h = tt
+content-numbers (time s n) h = tt
 content-numbers (options os) h = h
 content-numbers (value f d) h = value-numbers f d h
 
@@ -124,8 +128,8 @@ fields-numbers : (fs : List ToldField) → HaveNumbers fs → MembersHaveNumbers
 fields-numbers [] h = tt
 fields-numbers (f ∷ fs) h = (content-numbers f.content h.0, fields-numbers fs h.1)
 
-pub line-numbers : (head : ToldHead) (line : ToldLine) → HaveNumbers (head.number ++ (head.origin ++ line.fields)) → HasNumbers (line_json head line)
-line-numbers head line h = (tt, fields-numbers (head.number ++ (head.origin ++ line.fields)) h)
+pub line-numbers : (head : ToldHead) (line : ToldLine) → HaveNumbers (head.number ++ (head.origin ++ (head.place ++ line.fields))) → HasNumbers (line_json head line)
+line-numbers head line h = (tt, fields-numbers (head.number ++ (head.origin ++ (head.place ++ line.fields))) h)
 
 -- ---- options one by one
 

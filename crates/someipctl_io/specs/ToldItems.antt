@@ -24,7 +24,7 @@ datagram_field k = field [] (codes "datagram") (number k)
 
 -- the head of the lines of the k-th datagram, with fields that say where that came from
 abbrev pub head_from : List ToldField → ℕ → ToldHead
-head_from origin k = record { number = datagram_field k ∷ []; origin = origin }
+head_from origin k = record { number = datagram_field k ∷ []; origin = origin; place = [] }
 
 -- the same without where it came from
 abbrev pub datagram_head : ℕ → ToldHead

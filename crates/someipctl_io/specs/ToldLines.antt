@@ -17,6 +17,7 @@ use Rattle.someipctl_io.specs.declared.form.Form.{Form as LineForm}
 use Rattle.someipctl_io.specs.declared.form.Form.TheVariants.{Plain, Json}
 use Rattle.someipctl_io.specs.Lines.{flag_text}
 use Rattle.someipctl_io.specs.Options.{run_text}
+use Rattle.someipctl_io.specs.Parts.{seconds_text}
 use Rattle.someipctl_io.specs.JsonTexts.{json_text, key_text}
 use Rattle.someipctl_io.specs.OptionObjects.{option_items}
 use Rattle.someipctl_io.specs.ValueObjects.{FitIn64, value_json}
@@ -37,6 +38,8 @@ pub data Content : Type 0 where
   nothing : Content
   address : Ipv4Addr → Content
   endpoint : SocketAddrV4 → Content
+  -- seconds and nanoseconds
+  time : ℕ → ℕ → Content
   options : List SdOption → Content
   -- a told value of a form of payload
   value : Form → Data → Content
@@ -47,10 +50,12 @@ pub record ToldField : Type 0 where
   pub key : List ℕ
   pub content : Content
 
--- the head of lines: the fields that number what a line is about, and those that say where that came from
+-- the head of lines: the fields that number what a line is about, those that say where that came from, and those that say
+-- where it stands
 pub record ToldHead : Type 0 where
   pub number : List ToldField
   pub origin : List ToldField
+  pub place : List ToldField
 
 -- a line behind its head: its kind, the word for that where it is plain, and its fields
 pub record ToldLine : Type 0 where
@@ -74,6 +79,7 @@ content_text mark = []
 content_text nothing = codes "-"
 content_text (address a) = ipv4_text (ipv4_octets a)
 content_text (endpoint e) = socket_v4_text e
+content_text (time s n) = seconds_text s n
 content_text (options os) = codes "[" ++ (run_text os ++ codes "]")
 content_text (value f d) = data_text f d
 
@@ -95,6 +101,7 @@ content_json mark = json.boolean Bool.true
 content_json nothing = json.null
 content_json (address a) = json.string (ipv4_text (ipv4_octets a))
 content_json (endpoint e) = json.string (socket_v4_text e)
+content_json (time s n) = json.string (seconds_text s n)
 content_json (options os) = json.array (option_items os)
 content_json (value f d) = value_json f d
 
@@ -105,7 +112,7 @@ field_members (f ∷ fs) = json.member f.key (content_json f.content) (field_mem
 
 -- the object that a line is: its kind, the fields of its head and its own, in order
 abbrev pub line_json : ToldHead → ToldLine → json.Json
-line_json head line = json.object (json.member (codes "kind") (json.string line.kind) (field_members (head.number ++ (head.origin ++ line.fields))))
+line_json head line = json.object (json.member (codes "kind") (json.string line.kind) (field_members (head.number ++ (head.origin ++ (head.place ++ line.fields)))))
 
 -- ---- in each form
 
@@ -117,10 +124,14 @@ field_text Json f = codes "," ++ (key_text f.key ++ json_text (content_json f.co
 abbrev pub fields_text : LineForm → List ToldField → List ℕ
 fields_text form fs = flat_map (field_text form) fs
 
+-- what stands before the number of a plain line, with a space behind each field
+abbrev pub origin_text : List ToldField → List ℕ
+origin_text fs = flat_map (λ f. field_text Plain f ++ codes " ") fs
+
 -- a line up to its fields
 abbrev pub begin_text : LineForm → ToldHead → List ℕ → Option (List ℕ) → List ℕ
-begin_text Plain head kind word = fields_text Plain head.origin ++ (fields_text Plain head.number ++ word_part word)
-begin_text Json head kind word = (codes "{\"kind\":" ++ quoted kind) ++ (fields_text Json head.number ++ fields_text Json head.origin)
+begin_text Plain head kind word = origin_text head.origin ++ (fields_text Plain head.number ++ (fields_text Plain head.place ++ word_part word))
+begin_text Json head kind word = (codes "{\"kind\":" ++ quoted kind) ++ (fields_text Json head.number ++ (fields_text Json head.origin ++ fields_text Json head.place))
 
 abbrev pub end_text : LineForm → List ℕ
 end_text Plain = codes "\n"
@@ -150,6 +161,7 @@ HasNumber mark = ⊤
 HasNumber nothing = ⊤
 HasNumber (address a) = ⊤
 HasNumber (endpoint e) = ⊤
+HasNumber (time s n) = ⊤
 
 -- each field has
 abbrev pub HaveNumbers : List ToldField → Type 0

@@ -5,7 +5,7 @@ use Rattle.someipctl_io.specs.declared.told.Said.TheVariants as says
 use Rattle.someipctl_io.specs.declared.told.Field.{Field}
 use Rattle.someipctl_io.specs.declared.told.LineHead.{LineHead}
 use Rattle.someipctl_io.specs.declared.told.Line.{Line}
-use Rattle.someipctl_io.specs.ToldLines.{Content, text, number, id, byte, bytes, flag, mark, nothing, address, endpoint, ToldField, ToldHead, ToldLine}
+use Rattle.someipctl_io.specs.ToldLines.{Content, text, number, id, byte, bytes, flag, mark, nothing, address, endpoint, time, ToldField, ToldHead, ToldLine}
 
 abbrev pub view_said : Said → Content
 view_said (says.Text t) = text t.now
@@ -18,12 +18,13 @@ view_said says.Mark = mark
 view_said says.Nothing = nothing
 view_said (says.Address a) = address a
 view_said (says.Endpoint e) = endpoint e
+view_said (says.Time seconds nanoseconds) = time seconds nanoseconds
 
 abbrev pub view_field : Field → ToldField
 view_field f = record { lead = f.lead.now; key = f.key.now; content = view_said f.said }
 
 abbrev pub view_head : LineHead → ToldHead
-view_head h = record { number = map view_field h.number.now; origin = map view_field h.origin.now }
+view_head h = record { number = map view_field h.number.now; origin = map view_field h.origin.now; place = map view_field h.place.now }
 
 abbrev pub view_line : Line → ToldLine
 view_line l = record { kind = l.kind.now; word = option_map (λ w. w.now) l.word; fields = map view_field l.fields.now }

@@ -40,7 +40,7 @@ pub fn an_object_reads_as_its_line()
     // The text is that which the kit prints of the value.
     ensures printed { (j : JsonValue) → json_text j ≡ print (json_tokens j) }
     // Its numbers fit where those that its fields tell have 64 bits.
-    ensures numbers { (head : ToldHead) (line : ToldLine) → HaveNumbers (head.number ++ (head.origin ++ line.fields))
+    ensures numbers { (head : ToldHead) (line : ToldLine) → HaveNumbers (head.number ++ (head.origin ++ (head.place ++ line.fields)))
         → HasNumbers (line_json head line) }
 {}
 

@@ -7,7 +7,7 @@ ghost use Rattle.hex.specs.Hex.{encode_lower};
 ghost use Rattle.json.specs.Print.{escape, escape_byte, escape_letter, quoted};
 ghost use Rattle.json.specs.Run.{is_plain};
 ghost use Rattle.someip_texts.specs.Words.{hex2, hex4};
-ghost use Rattle.someipctl_io.specs.Parts.{part_text};
+ghost use Rattle.someipctl_io.specs.Parts.{part_text, seconds_text};
 ghost use Rattle.someipctl_io.specs.Sending.{Sends, Stops};
 ghost use Rattle.someipctl_io.specs.JsonTexts.{json_text, key_text, truth_text};
 ghost use Rattle.someipctl_io.specs.ToldLines.{content_json, fields_text};
@@ -16,7 +16,9 @@ ghost use Rattle.someipctl_io.specs.ToldViews.{view_field, view_said};
 use crate::form::Form;
 use crate::output::{Buffer, CannotWrite};
 use crate::parts::{Part, put_parts};
-use crate::told::{LineHead, Said, address_between, endpoint_between, put_fields};
+use crate::told::{
+    LineHead, Said, address_between, endpoint_between, put_fields, time_between,
+};
 use std::io::Write;
 use std::net::{Ipv4Addr, SocketAddrV4};
 
@@ -29,14 +31,17 @@ pub(crate) fn put_begin_of_object<W: Write>(
 ) -> Result<(), CannotWrite>
     ensures ok { OnOk result (Sends (W.contents writer.old) buffer.old (W.contents writer.new) buffer.new
         ((codes "{\"kind\":" ++ quoted kind.now) ++ (fields_text Form.Json (map view_field head.now.number.now)
-        ++ fields_text Form.Json (map view_field head.now.origin.now)))) }
+        ++ (fields_text Form.Json (map view_field head.now.origin.now)
+        ++ fields_text Form.Json (map view_field head.now.place.now))))) }
     ensures err { OnErr result (Stops (W.contents writer.old) buffer.old (W.contents writer.new)
         ((codes "{\"kind\":" ++ quoted kind.now) ++ (fields_text Form.Json (map view_field head.now.number.now)
-        ++ fields_text Form.Json (map view_field head.now.origin.now)))) }
+        ++ (fields_text Form.Json (map view_field head.now.origin.now)
+        ++ fields_text Form.Json (map view_field head.now.place.now))))) }
 {
     put_kind(buffer, writer, kind)?;
     put_fields(buffer, writer, Form::Json, head.number)?;
-    put_fields(buffer, writer, Form::Json, head.origin)
+    put_fields(buffer, writer, Form::Json, head.origin)?;
+    put_fields(buffer, writer, Form::Json, head.place)
 }
 
 fn put_kind<W: Write>(buffer: &mut Buffer, writer: &mut W, kind: &str) -> Result<(), CannotWrite>
@@ -103,6 +108,10 @@ fn put_said<W: Write>(
         Said::Nothing => put_parts(buffer, writer, &[Part::Text("null")]),
         Said::Address(address) => put_parts(buffer, writer, &quoted_address(address)),
         Said::Endpoint(endpoint) => put_parts(buffer, writer, &quoted_endpoint(endpoint)),
+        Said::Time {
+            seconds,
+            nanoseconds,
+        } => put_parts(buffer, writer, &quoted_time(seconds, nanoseconds)),
     }
 }
 
@@ -139,6 +148,13 @@ fn quoted_endpoint(endpoint: SocketAddrV4) -> [Part<'static>; 11]
     ensures { flat_map part_text result ≡ quoted (socket_v4_text endpoint) }
 {
     endpoint_between("\"", endpoint)
+}
+
+/// A time between quotes.
+fn quoted_time(seconds: u64, nanoseconds: u32) -> [Part<'static>; 5]
+    ensures { flat_map part_text result ≡ quoted (seconds_text seconds nanoseconds) }
+{
+    time_between("\"", seconds, nanoseconds)
 }
 
 fn truth(flag: bool) -> &'static str

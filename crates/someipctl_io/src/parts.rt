@@ -1,9 +1,9 @@
 //! The parts of a line: text, numbers and hex.
-ghost use Rattle.std.specs.Prelude.{◌≡◌, OnOk, OnErr};
+ghost use Rattle.std.specs.Prelude.{◌≡◌, OnOk, OnErr, drop};
 ghost use Rattle.std.specs.List.{flat_map};
 ghost use Rattle.someip_texts.specs.Words.{hex2, hex4};
 ghost use Rattle.someipctl_io.specs.Sending.{Sends, Stops};
-ghost use Rattle.someipctl_io.specs.Parts.{part_text};
+ghost use Rattle.someipctl_io.specs.Parts.{nine_digits, part_text};
 
 use crate::output::{Buffer, CannotWrite, write_hex};
 use std::io::Write;
@@ -21,6 +21,8 @@ pub enum Part<'p> {
     Id(u16),
     /// A byte as two lower-case hex digits.
     Byte(u8),
+    /// A number below 10^9 in nine decimal digits.
+    Nine(u32),
     /// Bytes as two lower-case hex digits each.
     Hex(&'p [u8]),
 }
@@ -62,7 +64,34 @@ fn put_part<W: Write>(
         }
         Part::Id(id) => buffer.put(writer, &digits_of_id(id)),
         Part::Byte(byte) => buffer.put(writer, &digits_of_byte(byte)),
+        Part::Nine(number) => put_nine_digits(buffer, writer, number),
         Part::Hex(bytes) => buffer.put_hex(writer, bytes),
+    }
+}
+
+/// Prints a number below 10^9 in nine digits.
+fn put_nine_digits<W: Write>(
+    buffer: &mut Buffer,
+    writer: &mut W,
+    number: u32,
+) -> Result<(), CannotWrite>
+    ensures ok { OnOk result (Sends (W.contents writer.old) buffer.old
+        (W.contents writer.new) buffer.new (nine_digits number)) }
+    ensures err { OnErr result (Stops (W.contents writer.old) buffer.old
+        (W.contents writer.new) (nine_digits number)) }
+{
+    let mut digits = itoa::Buffer::new();
+    let text = digits.format(1_000_000_000 + u64::from(number)).as_bytes();
+    buffer.put(writer, without_first(text))
+}
+
+/// The bytes after the first.
+fn without_first(bytes: &[u8]) -> &[u8]
+    ensures { result.now ≡ drop 1 bytes.now }
+{
+    match bytes {
+        [] => bytes,
+        [_, others @ ..] => others,
     }
 }
 

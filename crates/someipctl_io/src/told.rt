@@ -1,18 +1,19 @@
 //! Lines as a list of fields, and how one is printed in either form.
 //!
 //! A line has a kind, a head and fields of its own. The head numbers what the line is about (`datagram`), and
-//! says where that came from. Plain a line is its origin, its number, the word for its kind, and its fields,
-//! each behind its lead. In JSON it is one object: `kind`, the number, the origin, and the fields, each under
-//! its key.
+//! says where that came from. Plain a line is its origin, its number, its place, the word for its kind, and its
+//! fields, each behind its lead. In JSON it is one object: `kind`, the number, the origin, the place, and the
+//! fields, each under its key.
 ghost use Rattle.std.specs.Prelude.{◌≡◌, ◌<◌, ◌++◌, OnOk, OnErr, codes, map, option_map};
 ghost use Rattle.std.specs.Net.Addr.{ipv4_octets};
 ghost use Rattle.std.specs.Net.Socket.{v4_ip, v4_port};
 ghost use Rattle.std.specs.Net.Text.{ipv4_text, socket_v4_text};
 ghost use Rattle.hex.specs.Hex.{IsBytes};
 ghost use Rattle.std.specs.List.{flat_map};
-ghost use Rattle.someipctl_io.specs.Parts.{part_text};
+ghost use Rattle.someipctl_io.specs.Parts.{part_text, seconds_text};
 ghost use Rattle.someipctl_io.specs.Sending.{Sends, Stops};
-ghost use Rattle.someipctl_io.specs.ToldLines.{begin_text, content_text, end_text, field_text, fields_text, line_text, word_part};
+ghost use Rattle.someipctl_io.specs.ToldLines.{begin_text, content_text, end_text, field_text, fields_text, line_text, origin_text};
+ghost use Rattle.someipctl_io.specs.ToldLines.{word_part};
 ghost use Rattle.someipctl_io.specs.ToldViews.{view_field, view_head, view_line, view_said};
 
 use crate::form::Form;
@@ -46,6 +47,8 @@ pub enum Said<'s> {
     Address(Ipv4Addr),
     /// An address and a port.
     Endpoint(SocketAddrV4),
+    /// A time in seconds, with nine digits after the dot.
+    Time { seconds: u64, nanoseconds: u32 },
 }
 
 /// A field of a line.
@@ -66,8 +69,11 @@ pub struct LineHead<'h> {
     pub form: Form,
     /// Which one they are about, as `datagram`.
     pub number: &'h [Field<'h>],
-    /// Where that came from, as `time`, `from` and `to`.
+    /// Where that came from, as `frame` and `time`: in a plain line before the number, with a space behind
+    /// each.
     pub origin: &'h [Field<'h>],
+    /// Where it stands, as `from` and `to`: in a plain line behind the number.
+    pub place: &'h [Field<'h>],
 }
 
 /// A line behind its head.
@@ -125,15 +131,48 @@ fn put_plain_begin<W: Write>(
     word: Option<&str>,
 ) -> Result<(), CannotWrite>
     ensures ok { OnOk result (Sends (W.contents writer.old) buffer.old (W.contents writer.new) buffer.new
-        (fields_text Form.Plain (map view_field head.now.origin.now)
-        ++ (fields_text Form.Plain (map view_field head.now.number.now) ++ word_part (option_map (λ w. w.now) word.entry)))) }
+        (origin_text (map view_field head.now.origin.now) ++ (fields_text Form.Plain (map view_field head.now.number.now)
+        ++ (fields_text Form.Plain (map view_field head.now.place.now) ++ word_part (option_map (λ w. w.now) word.entry))))) }
     ensures err { OnErr result (Stops (W.contents writer.old) buffer.old (W.contents writer.new)
-        (fields_text Form.Plain (map view_field head.now.origin.now)
-        ++ (fields_text Form.Plain (map view_field head.now.number.now) ++ word_part (option_map (λ w. w.now) word.entry)))) }
+        (origin_text (map view_field head.now.origin.now) ++ (fields_text Form.Plain (map view_field head.now.number.now)
+        ++ (fields_text Form.Plain (map view_field head.now.place.now) ++ word_part (option_map (λ w. w.now) word.entry))))) }
 {
-    put_fields(buffer, writer, Form::Plain, head.origin)?;
+    put_origin(buffer, writer, head.origin)?;
     put_fields(buffer, writer, Form::Plain, head.number)?;
+    put_fields(buffer, writer, Form::Plain, head.place)?;
     put_parts(buffer, writer, &word_parts(word))
+}
+
+/// Prints what stands before the number of a plain line: fields, with a space behind each.
+fn put_origin<W: Write>(
+    buffer: &mut Buffer,
+    writer: &mut W,
+    fields: &[Field<'_>],
+) -> Result<(), CannotWrite>
+    ensures ok { OnOk result (Sends (W.contents writer.old) buffer.old (W.contents writer.new) buffer.new
+        (origin_text (map view_field fields.now))) }
+    ensures err { OnErr result (Stops (W.contents writer.old) buffer.old (W.contents writer.new)
+        (origin_text (map view_field fields.now))) }
+{
+    for field in fields {
+        put_spaced_field(buffer, writer, field)?;
+    }
+    Ok(())
+}
+
+/// Prints a field of a plain line with a space behind it.
+fn put_spaced_field<W: Write>(
+    buffer: &mut Buffer,
+    writer: &mut W,
+    field: &Field<'_>,
+) -> Result<(), CannotWrite>
+    ensures ok { OnOk result (Sends (W.contents writer.old) buffer.old (W.contents writer.new) buffer.new
+        (field_text Form.Plain (view_field field.now) ++ codes " ")) }
+    ensures err { OnErr result (Stops (W.contents writer.old) buffer.old (W.contents writer.new)
+        (field_text Form.Plain (view_field field.now) ++ codes " ")) }
+{
+    put_field(buffer, writer, Form::Plain, field)?;
+    put_parts(buffer, writer, &[Part::Text(" ")])
 }
 
 /// A word behind a space.
@@ -218,7 +257,28 @@ fn put_plain_said<W: Write>(
         Said::Nothing => put_parts(buffer, writer, &[Part::Text("-")]),
         Said::Address(address) => put_parts(buffer, writer, &address_between("", address)),
         Said::Endpoint(endpoint) => put_parts(buffer, writer, &endpoint_between("", endpoint)),
+        Said::Time {
+            seconds,
+            nanoseconds,
+        } => put_parts(buffer, writer, &time_between("", seconds, nanoseconds)),
     }
+}
+
+/// A time between two texts.
+pub(crate) fn time_between(
+    quote: &'static str,
+    seconds: u64,
+    nanoseconds: u32,
+) -> [Part<'static>; 5]
+    ensures { flat_map part_text result ≡ quote.now ++ (seconds_text seconds nanoseconds ++ quote.now) }
+{
+    [
+        Part::Text(quote),
+        Part::Number(seconds as usize),
+        Part::Text("."),
+        Part::Nine(nanoseconds),
+        Part::Text(quote),
+    ]
 }
 
 /// An address between two texts.

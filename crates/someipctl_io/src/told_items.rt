@@ -53,6 +53,7 @@ pub fn put_item_objects<W: Write>(
         form: Form::Json,
         number: &number,
         origin,
+        place: &[],
     };
     put_told_item(buffer, writer, &head, shown, fields)
 }
@@ -74,6 +75,7 @@ pub fn put_empty_object<W: Write>(
         form: Form::Json,
         number: &number,
         origin,
+        place: &[],
     };
     put_empty_in(buffer, writer, &head)
 }

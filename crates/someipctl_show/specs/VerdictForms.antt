@@ -14,7 +14,7 @@ use Rattle.someipctl_show.specs.Vectors.{AreJudged, IsFirstBadVector, count_pass
 
 -- a head of these fields, without where something came from
 abbrev pub head_of : List ToldField → ToldHead
-head_of fields = record { number = fields; origin = [] }
+head_of fields = record { number = fields; origin = []; place = [] }
 
 -- the head of the line of the k-th vector
 abbrev pub vector_head : ℕ → ToldHead

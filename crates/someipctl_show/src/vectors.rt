@@ -279,6 +279,7 @@ fn put_told<'l, W: Write>(
         form,
         number,
         origin: &[],
+        place: &[],
     };
     let line = Line {
         kind,
