@@ -65,9 +65,12 @@ vectors_usage = (with_rule (with_json (new_app (codes "vectors"))) (required (co
 abbrev pub with_inputs : App → App
 with_inputs command = with_rule (with_rule command (required (codes "setup"))) (required (codes "schedule"))
 
--- `run [--expect TRACE] [--begins TRACE] [--lines] SETUP SCHEDULE`
+-- `run [--expect TRACE] [--begins TRACE] [--lines] [--json] SETUP SCHEDULE`
+abbrev pub run_options : App
+run_options = with_json (with_rule (with_rule (with_rule (new_app (codes "run")) (valued (codes "expect"))) (valued (codes "begins"))) (flag (codes "lines")))
+
 abbrev pub run_usage : Shape
-run_usage = (with_inputs (with_rule (with_rule (with_rule (new_app (codes "run")) (valued (codes "expect"))) (valued (codes "begins"))) (flag (codes "lines")))).top
+run_usage = (with_inputs run_options).top
 
 -- the command with the options on messages that are put together
 abbrev pub with_whole : App → App
@@ -92,11 +95,11 @@ with_findings command = with_rule (with_rule command (flag (codes "frames"))) (v
 abbrev pub with_heads : App → App
 with_heads command = with_rule (with_rule command (flag (codes "frames"))) (flag (codes "endpoints"))
 
--- `recording [--ports PORTS] [--frames] [--endpoints] [--service SERVICES] [--types FILE] [--address A] [--client C]
--- [--from TIME] [--until TIME] [--learned] [--interface N] [--vlan ID] [--dedup MS] [--whole] [--whole-limit N]
--- [--whole-slots N] [--whole-timeout MS] FILE..`
+-- `recording [--ports PORTS] [--frames] [--endpoints] [--json] [--service SERVICES] [--types FILE] [--address A]
+-- [--client C] [--from TIME] [--until TIME] [--learned] [--interface N] [--vlan ID] [--dedup MS] [--whole]
+-- [--whole-limit N] [--whole-slots N] [--whole-timeout MS] FILE..`
 abbrev pub recording_options : App
-recording_options = with_whole (with_packets (with_choice (with_filters (with_heads (with_rule (new_app (codes "recording")) (valued (codes "ports")))))))
+recording_options = with_whole (with_packets (with_choice (with_filters (with_json (with_heads (with_rule (new_app (codes "recording")) (valued (codes "ports"))))))))
 
 abbrev pub recording_usage : Shape
 recording_usage = (with_rule recording_options (required_many (codes "file"))).top
@@ -105,13 +108,13 @@ recording_usage = (with_rule recording_options (required_many (codes "file"))).t
 abbrev pub chart_usage : Shape
 chart_usage = (with_inputs (new_app (codes "chart"))).top
 
--- `audit [--ports PORTS] [--answer-ms N] [--settle-ms N] [--frames] [--service SERVICES] [--address A] [--client C]
--- [--from TIME] [--until TIME] [--learned] [--interface N] [--vlan ID] [--dedup MS] FILE..`
+-- `audit [--ports PORTS] [--answer-ms N] [--settle-ms N] [--frames] [--service SERVICES] [--json] [--address A]
+-- [--client C] [--from TIME] [--until TIME] [--learned] [--interface N] [--vlan ID] [--dedup MS] FILE..`
 abbrev pub audit_settings : App
 audit_settings = with_rule (with_rule (with_rule (new_app (codes "audit")) (valued (codes "ports"))) (valued (codes "answer-ms"))) (valued (codes "settle-ms"))
 
 abbrev pub audit_options : App
-audit_options = with_packets (with_choice (with_findings audit_settings))
+audit_options = with_packets (with_choice (with_json (with_findings audit_settings)))
 
 abbrev pub audit_usage : Shape
 audit_usage = (with_rule audit_options (required_many (codes "file"))).top
@@ -155,6 +158,7 @@ pub record RecordingRequest : Type 0 where
   pub ports : Option Text
   pub frames : Bool
   pub endpoints : Bool
+  pub json : Bool
   pub service : Option Text
   pub types : Option Text
   pub whole : Bool
@@ -168,6 +172,7 @@ pub record AuditRequest : Type 0 where
   pub choice : ChoiceRequest
   pub ports : Option Text
   pub frames : Bool
+  pub json : Bool
   pub service : Option Text
   pub answer_ms : Option Text
   pub settle_ms : Option Text
@@ -178,7 +183,7 @@ pub data Request : Type 0 where
   payload_request : Text → Text → Request
   encode_request : Text → Text → Request
   vectors_request : Text → Bool → Request
-  run_request : Text → Text → Option Text → Option Text → Bool → Request
+  run_request : Text → Text → Option Text → Option Text → (lines json : Bool) → Request
   recording_request : List Text → RecordingRequest → Request
   chart_request : Text → Text → Request
   audit_request : List Text → AuditRequest → Request
@@ -203,6 +208,7 @@ asked_by_options o = record {
   ports = text_at o.ports;
   frames = o.frames;
   endpoints = o.endpoints;
+  json = o.json;
   service = text_at o.service;
   types = text_at o.types;
   whole = o.whole;
@@ -217,6 +223,7 @@ asked_by_audit_options o = record {
   choice = asked_by_choice o.choice;
   ports = text_at o.ports;
   frames = o.frames;
+  json = o.json;
   service = text_at o.service;
   answer_ms = text_at o.answer_ms;
   settle_ms = text_at o.settle_ms;
@@ -228,7 +235,7 @@ asked_by_command (Show capture service types json) = show_request capture.now (t
 asked_by_command (Payload shape hex) = payload_request shape.now hex.now
 asked_by_command (Encode shape value) = encode_request shape.now value.now
 asked_by_command (Vectors file json) = vectors_request file.now json
-asked_by_command (Run setup schedule expect begins lines) = run_request setup.now schedule.now (text_at expect) (text_at begins) lines
+asked_by_command (Run setup schedule expect begins lines json) = run_request setup.now schedule.now (text_at expect) (text_at begins) lines json
 asked_by_command (Recording files options) = recording_request (texts_at files.items) (asked_by_options options)
 asked_by_command (Chart setup schedule) = chart_request setup.now schedule.now
 asked_by_command (Audit files options) = audit_request (texts_at files.items) (asked_by_audit_options options)
@@ -262,7 +269,8 @@ values_of found id = unwrap_or (option_map raw_values (matched_of found id)) []
 -- what `run` asks for
 abbrev pub asked_by_run : (Text → Option Text) → Option Request
 asked_by_run value =
-    option_and_then (λ setup. option_map (λ schedule. run_request setup schedule (value (codes "expect")) (value (codes "begins")) (is_on (value (codes "lines")))) (value (codes "schedule")))
+    option_and_then
+    (λ setup. option_map (λ schedule. run_request setup schedule (value (codes "expect")) (value (codes "begins")) (is_on (value (codes "lines"))) (is_on (value (codes "json")))) (value (codes "schedule")))
     (value (codes "setup"))
 
 -- the options that choose packets, by what each matched
@@ -287,13 +295,14 @@ abbrev pub choice_options_by : (Text → Option Text) → ChoiceRequest
 choice_options_by value = choice_options_of (value (codes "address")) (value (codes "client")) (value (codes "from")) (value (codes "until")) (value (codes "learned"))
 
 -- the options of `recording`, by what each matched
-abbrev pub recording_options_of : PacketRequest → ChoiceRequest → (ports frames endpoints service types whole limit slots timeout : Option Text) → RecordingRequest
-recording_options_of packets choice ports frames endpoints service types whole limit slots timeout = record {
+abbrev pub recording_options_of : PacketRequest → ChoiceRequest → (ports frames endpoints json service types whole limit slots timeout : Option Text) → RecordingRequest
+recording_options_of packets choice ports frames endpoints json service types whole limit slots timeout = record {
   packets = packets;
   choice = choice;
   ports = ports;
   frames = is_on frames;
   endpoints = is_on endpoints;
+  json = is_on json;
   service = service;
   types = types;
   whole = is_on whole;
@@ -305,7 +314,7 @@ recording_options_of packets choice ports frames endpoints service types whole l
 abbrev pub recording_options_by : (Text → Option Text) → RecordingRequest
 recording_options_by value =
     recording_options_of (packet_options_by value) (choice_options_by value)
-    (value (codes "ports")) (value (codes "frames")) (value (codes "endpoints")) (value (codes "service")) (value (codes "types"))
+    (value (codes "ports")) (value (codes "frames")) (value (codes "endpoints")) (value (codes "json")) (value (codes "service")) (value (codes "types"))
     (value (codes "whole")) (value (codes "whole-limit")) (value (codes "whole-slots")) (value (codes "whole-timeout"))
 
 -- what `recording` asks for, by the values of its options and all values of its argument
@@ -317,12 +326,13 @@ abbrev pub asked_by_chart : (Text → Option Text) → Option Request
 asked_by_chart value = option_and_then (λ setup. option_map (chart_request setup) (value (codes "schedule"))) (value (codes "setup"))
 
 -- the options of `audit`, by what each matched
-abbrev pub audit_options_of : PacketRequest → ChoiceRequest → (ports frames service answer_ms settle_ms : Option Text) → AuditRequest
-audit_options_of packets choice ports frames service answer_ms settle_ms = record {
+abbrev pub audit_options_of : PacketRequest → ChoiceRequest → (ports frames json service answer_ms settle_ms : Option Text) → AuditRequest
+audit_options_of packets choice ports frames json service answer_ms settle_ms = record {
   packets = packets;
   choice = choice;
   ports = ports;
   frames = is_on frames;
+  json = is_on json;
   service = service;
   answer_ms = answer_ms;
   settle_ms = settle_ms;
@@ -331,7 +341,7 @@ audit_options_of packets choice ports frames service answer_ms settle_ms = recor
 abbrev pub audit_options_by : (Text → Option Text) → AuditRequest
 audit_options_by value =
     audit_options_of (packet_options_by value) (choice_options_by value)
-    (value (codes "ports")) (value (codes "frames")) (value (codes "service")) (value (codes "answer-ms")) (value (codes "settle-ms"))
+    (value (codes "ports")) (value (codes "frames")) (value (codes "json")) (value (codes "service")) (value (codes "answer-ms")) (value (codes "settle-ms"))
 
 -- what `audit` asks for
 abbrev pub asked_by_audit : (Text → Option Text) → (Text → List Text) → Option Request

@@ -65,6 +65,8 @@ pub enum Command<'w> {
         begins: Option<&'w str>,
         /// Whether each line of the trace is to begin with the line of the schedule.
         lines: bool,
+        /// Whether each line is to be a JSON object.
+        json: bool,
     },
     /// Print the messages of recordings of network traffic.
     Recording {
@@ -127,6 +129,8 @@ pub struct AuditOptions<'w> {
     pub ports: Option<&'w str>,
     /// Whether each line is to begin with the number of its packet.
     pub frames: bool,
+    /// Whether each line is to be a JSON object.
+    pub json: bool,
     /// The text of the services whose findings are told. None tells all.
     pub service: Option<&'w str>,
     /// The text of how many milliseconds an answer may take.
@@ -148,6 +152,8 @@ pub struct RecordingOptions<'w> {
     pub frames: bool,
     /// Whether each line is to begin with the time and the endpoints of its datagram.
     pub endpoints: bool,
+    /// Whether each line is to be a JSON object.
+    pub json: bool,
     /// The text of the services whose datagrams are asked for. None asks for all.
     pub service: Option<&'w str>,
     /// The path of a types file, as it was given.
@@ -304,6 +310,7 @@ fn run_matched<'w>(matches: &ArgMatches<'w>) -> Option<Command<'w>>
         expect: matches.get_str("expect"),
         begins: matches.get_str("begins"),
         lines: is_given(matches, "lines"),
+        json: is_given(matches, "json"),
     })
 }
 
@@ -365,6 +372,7 @@ fn options_matched<'w>(matches: &ArgMatches<'w>) -> RecordingOptions<'w>
         ports: matches.get_str("ports"),
         frames: is_given(matches, "frames"),
         endpoints: is_given(matches, "endpoints"),
+        json: is_given(matches, "json"),
         service: matches.get_str("service"),
         types: matches.get_str("types"),
         whole: is_given(matches, "whole"),
@@ -407,6 +415,7 @@ fn audit_options_matched<'w>(matches: &ArgMatches<'w>) -> AuditOptions<'w>
         choice: choice_matched(matches),
         ports: matches.get_str("ports"),
         frames: is_given(matches, "frames"),
+        json: is_given(matches, "json"),
         service: matches.get_str("service"),
         answer_ms: matches.get_str("answer-ms"),
         settle_ms: matches.get_str("settle-ms"),

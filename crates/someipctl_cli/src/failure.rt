@@ -97,6 +97,9 @@ pub enum Failure<'p> {
     /// Both a whole trace and the beginning of one are expected of a run.
     #[error("error: the argument '--expect <TRACE>' cannot be used with '--begins <TRACE>'\n\nUsage: someipctl run [OPTIONS] <SETUP> <SCHEDULE>")]
     ExpectAndBegins,
+    /// A trace is expected of a run, by this option, and objects are asked for.
+    #[error("error: the argument '--json' cannot be used with '{0} <TRACE>'\n\nUsage: someipctl run [OPTIONS] <SETUP> <SCHEDULE>")]
+    JsonAndExpected(&'static str),
     /// The arguments are no call of the program.
     #[error("{0}")]
     Usage(clap::Error),
@@ -129,7 +132,8 @@ impl<'p> Failure<'p> {
             | Failure::BadLimits(_)
             | Failure::BadTimes(_)
             | Failure::LimitAlone
-            | Failure::ExpectAndBegins => 2,
+            | Failure::ExpectAndBegins
+            | Failure::JsonAndExpected(_) => 2,
             Failure::OutOfMemory => 3,
             Failure::CannotRead(_) | Failure::CannotWrite => 4,
         }

@@ -129,7 +129,7 @@ fn run_definition<'d>(alloc: Global) -> Result<clap::Command<'d>, AllocError>
     );
     let first = taking(Ok(command), expect);
     let second = taking(first, begins);
-    let third = taking(second, lines);
+    let third = add_json(alloc, taking(second, lines));
     add_inputs(alloc, third)
 }
 
@@ -147,7 +147,8 @@ fn recording_definition<'d>(alloc: Global) -> Result<clap::Command<'d>, AllocErr
         "Prints only datagrams from or to one of these ports",
     );
     let first = add_heads(alloc, taking(Ok(command), ports));
-    let second = add_choice(alloc, add_filters(alloc, first));
+    let filtered = add_filters(alloc, add_json(alloc, first));
+    let second = add_choice(alloc, filtered);
     let third = add_whole(alloc, add_packets(alloc, second));
     taking(third, files(alloc))
 }
@@ -189,7 +190,7 @@ fn audit_definition<'d>(alloc: Global) -> Result<clap::Command<'d>, AllocError>
     );
     let first = taking(Ok(command), ports);
     let second = taking(first, answer);
-    let third = add_findings(alloc, taking(second, settle));
+    let third = add_json(alloc, add_findings(alloc, taking(second, settle)));
     taking(add_packets(alloc, add_choice(alloc, third)), files(alloc))
 }
 

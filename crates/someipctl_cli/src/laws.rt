@@ -35,49 +35,57 @@ pub fn calls_by_example()
         ≡ Some (vectors_request (codes "x") false) }
 
     ensures run { requested (line (codes "run" ∷ codes "x" ∷ codes "y" ∷ []))
-        ≡ Some (run_request (codes "x") (codes "y") None None false) }
+        ≡ Some (run_request (codes "x") (codes "y") None None false false) }
 
     ensures run_options { requested (line (codes "run" ∷ codes "--lines" ∷ codes "--expect" ∷ codes "t"
-        ∷ codes "x" ∷ codes "y" ∷ [])) ≡ Some (run_request (codes "x") (codes "y") (Some (codes "t")) None true) }
+        ∷ codes "x" ∷ codes "y" ∷ [])) ≡ Some (run_request (codes "x") (codes "y") (Some (codes "t")) None true false) }
 
     ensures run_begins { requested (line (codes "run" ∷ codes "--begins" ∷ codes "t" ∷ codes "x" ∷ codes "y" ∷ []))
-        ≡ Some (run_request (codes "x") (codes "y") None (Some (codes "t")) false) }
+        ≡ Some (run_request (codes "x") (codes "y") None (Some (codes "t")) false false) }
 
     ensures show_options { requested (line (codes "show" ∷ codes "--service" ∷ codes "1111" ∷ codes "--types" ∷ codes "t"
         ∷ codes "x" ∷ [])) ≡ Some (show_request (codes "x") (Some (codes "1111")) (Some (codes "t")) false) }
 
     ensures json { requested (line (codes "show" ∷ codes "x" ∷ codes "--json" ∷ []))
         ≡ Some (show_request (codes "x") None None true) }
+    ensures run_json { requested (line (codes "run" ∷ codes "x" ∷ codes "y" ∷ codes "--json" ∷ []))
+        ≡ Some (run_request (codes "x") (codes "y") None None false true) }
+    ensures recording_json { requested (line (codes "recording" ∷ codes "--json" ∷ codes "x" ∷ []))
+        ≡ Some (recording_request (codes "x" ∷ []) (recording_options_of no_packets no_choice None None None
+        (Some (codes "true")) None None None None None None)) }
+    ensures audit_json { requested (line (codes "audit" ∷ codes "--json" ∷ codes "x" ∷ []))
+        ≡ Some (audit_request (codes "x" ∷ []) (audit_options_of no_packets no_choice None None (Some (codes "true"))
+        None None None)) }
 
     ensures recording { requested (line (codes "recording" ∷ codes "x" ∷ []))
         ≡ Some (recording_request (codes "x" ∷ []) (recording_options_of no_packets no_choice None None None None None None
-        None None None)) }
+        None None None None)) }
 
     // Options may also stand after the file, and have their value after `=`.
     ensures recording_options { requested (line (codes "recording" ∷ codes "x" ∷ codes "--ports=1,2"
         ∷ codes "--endpoints" ∷ codes "--whole" ∷ codes "--whole-slots" ∷ codes "4" ∷ []))
         ≡ Some (recording_request (codes "x" ∷ []) (recording_options_of no_packets no_choice (Some (codes "1,2")) None
-        (Some (codes "true")) None None (Some (codes "true")) None (Some (codes "4")) None)) }
+        (Some (codes "true")) None None None (Some (codes "true")) None (Some (codes "4")) None)) }
 
     // Several files are one recording, in their order.
     ensures files { requested (line (codes "recording" ∷ codes "b" ∷ codes "--frames" ∷ codes "--vlan" ∷ codes "7"
         ∷ codes "--from" ∷ codes "5" ∷ codes "a" ∷ codes "b" ∷ [])) ≡ Some (recording_request
         (codes "b" ∷ codes "a" ∷ codes "b" ∷ []) (recording_options_of (packet_options_of None (Some (codes "7")) None)
         (choice_options_of None None (Some (codes "5")) None None) None (Some (codes "true")) None None None None None None
-        None)) }
+        None None)) }
 
     ensures chart { requested (line (codes "chart" ∷ codes "x" ∷ codes "y" ∷ []))
         ≡ Some (chart_request (codes "x") (codes "y")) }
 
     ensures audit { requested (line (codes "audit" ∷ codes "x" ∷ []))
-        ≡ Some (audit_request (codes "x" ∷ []) (audit_options_of no_packets no_choice None None None None None)) }
+        ≡ Some (audit_request (codes "x" ∷ []) (audit_options_of no_packets no_choice None None None None None None)) }
     ensures audit_choice { requested (line (codes "audit" ∷ codes "x" ∷ codes "--frames" ∷ codes "--client" ∷ codes "0102"
         ∷ codes "--learned" ∷ codes "--service" ∷ codes "1111" ∷ [])) ≡ Some (audit_request (codes "x" ∷ [])
         (audit_options_of no_packets (choice_options_of None (Some (codes "0102")) None None (Some (codes "true"))) None
-        (Some (codes "true")) (Some (codes "1111")) None None)) }
+        (Some (codes "true")) None (Some (codes "1111")) None None)) }
     ensures audit_options { requested (line (codes "audit" ∷ codes "--ports" ∷ codes "1,2" ∷ codes "--answer-ms" ∷ codes "5"
         ∷ codes "--settle-ms" ∷ codes "0" ∷ codes "x" ∷ [])) ≡ Some (audit_request (codes "x" ∷ [])
-        (audit_options_of no_packets no_choice (Some (codes "1,2")) None None (Some (codes "5")) (Some (codes "0")))) }
+        (audit_options_of no_packets no_choice (Some (codes "1,2")) None None None (Some (codes "5")) (Some (codes "0")))) }
 
     // An option without its value, and one that was given twice.
     ensures bare_expect { HaveFault (line (codes "run" ∷ codes "x" ∷ codes "y" ∷ codes "--expect" ∷ []))

@@ -25,6 +25,7 @@ use someipctl_recordings::{
 use someipctl_run::chart::chart_schedule;
 use someipctl_run::{
     Extent, TraceForm, compare_schedule, read_expected, read_setup, run_schedule_in_form,
+    run_schedule_objects,
 };
 use someipctl_show::encode::encode;
 use someipctl_show::payload::payload;
@@ -152,9 +153,14 @@ fn run_command<'w, R: Files + Print + Eprint + Input + AllocGlobal>(
             expect,
             begins,
             lines,
+            json,
         } => {
-            let wanted = wanted_of(expect, begins)?;
-            run_files(rt, setup, schedule, wanted, form_of(lines))
+            let wanted = wanted_of(expect, begins, json)?;
+            let asked = RunForm {
+                form: line_form(json),
+                trace: form_of(lines),
+            };
+            run_files(rt, setup, schedule, wanted, asked)
         }
         Command::Chart { setup, schedule } => chart_files(rt, setup, schedule),
         Command::Recording { files, options } => show_recorded(rt, &files, options),
@@ -221,6 +227,7 @@ fn show_wanted<'p, R: Files + Print + Eprint + Input + AllocGlobal>(
     let asked = Asked {
         wanted,
         types: &types,
+        form: line_form(options.json),
         heads: Heads {
             frame: options.frames,
             endpoints: options.endpoints,
@@ -318,6 +325,7 @@ fn audit_wanted<'p, R: Files + Print + Eprint + Input + AllocGlobal>(
         rules,
         wanted,
         frames: options.frames,
+        form: line_form(options.json),
     };
     let mut sources = open_sources(rt, paths)?;
     let mut writer = io::writer(rt);
@@ -524,13 +532,25 @@ fn form_of(lines: bool) -> TraceForm
 fn wanted_of<'p>(
     expect: Option<&'p str>,
     begins: Option<&'p str>,
+    json: bool,
 ) -> Result<Option<(&'p str, Extent)>, Failure<'p>> {
     match (expect, begins) {
         (Some(_), Some(_)) => Err(Failure::ExpectAndBegins),
+        (Some(_), None) if json => Err(Failure::JsonAndExpected("--expect")),
+        (None, Some(_)) if json => Err(Failure::JsonAndExpected("--begins")),
         (Some(trace), None) => Ok(Some((trace, Extent::Whole))),
         (None, Some(trace)) => Ok(Some((trace, Extent::Beginning))),
         (None, None) => Ok(None),
     }
+}
+
+/// How a trace is printed.
+#[derive(Clone, Copy)]
+struct RunForm {
+    /// The form of its lines.
+    form: Form,
+    /// Whether each has the line of the schedule.
+    trace: TraceForm,
 }
 
 /// Runs a schedule over a setup, and compares the trace where one is expected. Whatever is wrong with the
@@ -541,14 +561,31 @@ fn run_files<'p, R: Files + Print + AllocGlobal>(
     setup: &'p str,
     schedule: &'p str,
     wanted: Option<(&'p str, Extent)>,
-    form: TraceForm,
+    asked: RunForm,
 ) -> Result<Outcome, Failure<'p>> {
     let network = setup_at(rt, setup)?;
     if let Some((trace, extent)) = wanted {
-        return compare_files(rt, &network, schedule, trace, extent, form);
+        return compare_files(rt, &network, schedule, trace, extent, asked.trace);
     }
     let mut file = open_file(rt, schedule)?;
-    match run_schedule_in_form(rt.alloc(), &network, form, &mut file, &mut io::writer(rt)) {
+    let mut writer = io::writer(rt);
+    let ran = match asked.form {
+        Form::Plain => run_schedule_in_form(
+            rt.alloc(),
+            &network,
+            asked.trace,
+            &mut file,
+            &mut writer,
+        ),
+        Form::Json => run_schedule_objects(
+            rt.alloc(),
+            &network,
+            asked.trace,
+            &mut file,
+            &mut writer,
+        ),
+    };
+    match ran {
         Ok(()) => Ok(Outcome::Done),
         Err(fault) => Err(Failure::of(fault.map(Refusal::Schedule), schedule)),
     }

@@ -54,6 +54,9 @@ pub use output::{Buffer, CannotWrite, write_text};
 pub use parts::{Part, put_parts};
 pub use someip_texts::Word;
 pub use told::{Field, Line, LineHead, Said, put_begin, put_end_of_line, put_fields, put_line};
-pub use told_items::{datagram_field, put_empty_object, put_item_objects, put_told_item};
+pub use told_items::{
+    datagram_field, put_dropped_object, put_empty_object, put_item_objects, put_told_item,
+    put_value_object, put_whole_object,
+};
 pub use told_lines::{put_dropped_in, put_empty_in, put_fault_in, put_whole_in};
 pub use words::{put_end, put_words};

@@ -9,14 +9,17 @@ ghost use Rattle.someipctl_io.specs.Discovery.{view_found, discovery_in, has_sd_
 ghost use Rattle.someipctl_io.specs.Items.{item_len, is_faulty};
 ghost use Rattle.someipctl_io.specs.ToldLines.{line_text, lines_text};
 ghost use Rattle.someipctl_io.specs.ToldViews.{view_field, view_head};
-ghost use Rattle.someipctl_io.specs.ToldItems.{datagram_field, discovery_told, empty_told, head_from, item_text, segments_told, value_lines};
+ghost use Rattle.someipctl_io.specs.ToldItems.{datagram_field, discovery_told, dropped_told, empty_told, head_from, item_text};
+ghost use Rattle.someipctl_io.specs.ToldItems.{segments_told, value_lines, whole_told};
 
 use crate::form::Form;
 use crate::items::FoundItem;
 use crate::output::{Buffer, CannotWrite};
 use crate::told::{Field, LineHead, Said, put_begin, put_end_of_line};
 use crate::told_entries::put_reading_in;
-use crate::told_lines::{put_empty_in, put_fault_in, put_message_in, put_segment_in, told};
+use crate::told_lines::{
+    put_dropped_in, put_empty_in, put_fault_in, put_message_in, put_segment_in, put_whole_in, told,
+};
 use sd_wire::{SdError, SdRead};
 use someip_wire::{Header, Message};
 use std::io::Write;
@@ -78,6 +81,77 @@ pub fn put_empty_object<W: Write>(
         place: &[],
     };
     put_empty_in(buffer, writer, &head)
+}
+
+/// Prints the object of a segment of the k-th datagram that is not put together, with fields that say where it
+/// came from.
+pub fn put_dropped_object<W: Write>(
+    buffer: &mut Buffer,
+    writer: &mut W,
+    origin: &[Field<'_>],
+    k: usize,
+    name: &str,
+) -> Result<(), CannotWrite>
+    ensures ok { OnOk result (Sends (W.contents writer.old) buffer.old (W.contents writer.new) buffer.new
+        (line_text Form.Json (head_from (map view_field origin.now) k) (dropped_told name.now))) }
+    ensures err { OnErr result (Stops (W.contents writer.old) buffer.old (W.contents writer.new)
+        (line_text Form.Json (head_from (map view_field origin.now) k) (dropped_told name.now))) }
+{
+    let number = [datagram_field(k)];
+    let head = LineHead {
+        form: Form::Json,
+        number: &number,
+        origin,
+        place: &[],
+    };
+    put_dropped_in(buffer, writer, &head, name)
+}
+
+/// Prints the object of a message that a segment of the k-th datagram made whole, with fields that say where it
+/// came from.
+pub fn put_whole_object<W: Write>(
+    buffer: &mut Buffer,
+    writer: &mut W,
+    origin: &[Field<'_>],
+    k: usize,
+    message: &Message<'_>,
+) -> Result<(), CannotWrite>
+    ensures ok { OnOk result (Sends (W.contents writer.old) buffer.old (W.contents writer.new) buffer.new
+        (line_text Form.Json (head_from (map view_field origin.now) k) (whole_told (view message.now)))) }
+    ensures err { OnErr result (Stops (W.contents writer.old) buffer.old (W.contents writer.new)
+        (line_text Form.Json (head_from (map view_field origin.now) k) (whole_told (view message.now)))) }
+{
+    let number = [datagram_field(k)];
+    let head = LineHead {
+        form: Form::Json,
+        number: &number,
+        origin,
+        place: &[],
+    };
+    put_whole_in(buffer, writer, &head, message)
+}
+
+/// Prints the object of a value, of which the text of the fields is there already: none where that is empty.
+pub fn put_value_object<W: Write>(
+    buffer: &mut Buffer,
+    writer: &mut W,
+    origin: &[Field<'_>],
+    k: usize,
+    fields: &[u8],
+) -> Result<(), CannotWrite>
+    ensures ok { OnOk result (Sends (W.contents writer.old) buffer.old (W.contents writer.new) buffer.new
+        (value_lines Form.Json (head_from (map view_field origin.now) k) fields.now)) }
+    ensures err { OnErr result (Stops (W.contents writer.old) buffer.old (W.contents writer.new)
+        (value_lines Form.Json (head_from (map view_field origin.now) k) fields.now)) }
+{
+    let number = [datagram_field(k)];
+    let head = LineHead {
+        form: Form::Json,
+        number: &number,
+        origin,
+        place: &[],
+    };
+    put_value_line(buffer, writer, &head, fields)
 }
 
 /// Prints the lines of an item behind a head, as `put_item` does. `fields` is the text of the fields of the

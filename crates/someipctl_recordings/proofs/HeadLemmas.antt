@@ -1,7 +1,13 @@
 -- The heads of lines.
-use Rattle.std.proofs.Common.{◌≡◌, ℕ, suc, ◌<◌, ◌≤◌, ◌==◌, Bool, true, false, cond, List, [], ◌∷◌, ◌++◌, length, take, drop, refl, sym, ap, ◌∙◌, append_assoc, arith}
+use Rattle.std.proofs.Common.{◌≡◌, ℕ, suc, ◌<◌, ◌≤◌, ◌==◌, Bool, true, false, cond, List, [], ◌∷◌, ◌++◌, length, take, drop, map, refl, sym, ap, ◌∙◌, append_assoc, arith}
 use Rattle.std.proofs.lemmas.List.{length-drop}
+use Rattle.recording_packets.specs.Intake.{ArrivalValue}
+use Rattle.someipctl_io.specs.declared.told.Field.{Field}
+use Rattle.someipctl_io.specs.ToldLines.{ToldField}
+use Rattle.someipctl_io.specs.ToldViews.{view_field}
+use Rattle.someipctl_recordings.specs.declared.asked.Heads.{Heads}
 use Rattle.someipctl_recordings.specs.Heads.{line_len}
+use Rattle.someipctl_recordings.specs.Origins.{endpoint_fields, fields_if, frame_field, origin_fields}
 use Rattle.someipctl_recordings.specs.RecordedText.{with_heads}
 
 pub line_len-least : (text : List ℕ) → 0 < length text → 1 ≤ line_len text
@@ -48,3 +54,20 @@ smaller rest back n some is b =
     let least = line_len-least rest some in
     let same = ap length b in
     omega (arith, less, least, same, is, some)
+
+-- ---- the fields of objects
+
+asked-shape : (frame endpoints : Bool) (f : Field) (fs : List Field)
+    → map view_field (fields_if frame (f ∷ []) ++ fields_if endpoints fs)
+    ≡ fields_if frame (take 1 (map view_field (f ∷ fs))) ++ fields_if endpoints (drop 1 (map view_field (f ∷ fs)))
+asked-shape true true f fs = refl
+asked-shape true false f fs = refl
+asked-shape false true f fs = refl
+asked-shape false false f fs = refl
+
+-- those of the four that are asked for
+pub asked-fields : (heads : Heads) (fs : List Field) (a : ArrivalValue) → map view_field fs ≡ frame_field a.frame ∷ endpoint_fields a.datagram
+    → map view_field (fields_if heads.frame (take 1 fs) ++ fields_if heads.endpoints (drop 1 fs)) ≡ origin_fields heads a
+asked-fields heads [] a is = absurd cc
+asked-fields heads (f ∷ fs) a is =
+    asked-shape heads.frame heads.endpoints f fs ∙ ap (λ (l : List ToldField). fields_if heads.frame (take 1 l) ++ fields_if heads.endpoints (drop 1 l)) is

@@ -65,12 +65,12 @@ recorded_join asked p (d ∷ ds) others text both =
       own.1 ++ both.1,
       both.2 ∙ ap (λ (t : List ℕ). t ++ both.1) own.2 ∙ append_assoc own.0 own.1 both.1,
       own.3,
-      recorded_join asked (after_datagram asked p d.datagram) ds others (own.1 ++ both.1) (own.1, both.1, refl, own.4, both.4),
+      recorded_join asked (after_datagram asked p d) ds others (own.1 ++ both.1) (own.1, both.1, refl, own.4, both.4),
     )
 
 pub after-append : (asked : AskedValue) (p : Progress) (ds others : List ArrivalValue) → after_all asked p (ds ++ others) ≡ after_all asked (after_all asked p ds) others
 after-append asked p [] others = refl
-after-append asked p (d ∷ ds) others = after-append asked (after_datagram asked p d.datagram) ds others
+after-append asked p (d ∷ ds) others = after-append asked (after_datagram asked p d) ds others
 
 -- ---- the next record
 
@@ -100,7 +100,7 @@ after_none_came w s r intake came taken = rw (came, taken) refl
 pub recorded_one : (asked : AskedValue) (p : Progress) (ds : List ArrivalValue) (a : ArrivalValue) → ds ≡ a ∷ [] → (text : List ℕ) → IsRecordedText asked p a text → AreRecorded asked p ds text
 recorded_one asked p ds a is text one = subst (λ (l : List ArrivalValue). AreRecorded asked p l text) (sym is) (text, [], sym (append-nil text), one, refl)
 
-pub after_one : (asked : AskedValue) (p : Progress) (ds : List ArrivalValue) (a : ArrivalValue) → ds ≡ a ∷ [] → after_all asked p ds ≡ after_datagram asked p a.datagram
+pub after_one : (asked : AskedValue) (p : Progress) (ds : List ArrivalValue) (a : ArrivalValue) → ds ≡ a ∷ [] → after_all asked p ds ≡ after_datagram asked p a
 after_one asked p ds a is = ap (after_all asked p) is
 
 pub recorded_none : (asked : AskedValue) (p : Progress) (ds : List ArrivalValue) → ds ≡ [] → (a : Option (List ℕ)) (held : List ℕ) → SendsOne (AreRecorded asked p ds) a held a held

@@ -3,16 +3,18 @@ use Rattle.std.specs.Prelude.{List, Option}
 use Rattle.recording.specs.Records.{Item}
 use Rattle.recording_packets.specs.Intake.{ArrivalValue}
 use Rattle.someip_reassembly.specs.Parts.{Limits}
+use Rattle.someipctl_io.specs.declared.form.Form.{Form}
 use Rattle.someipctl_show.specs.types.Types.{TypesValue}
 use Rattle.someipctl_recordings.specs.declared.asked.Heads.{Heads}
 use Rattle.someipctl_recordings.specs.Wanted.{WantedValue}
 use Rattle.someipctl_recordings.specs.Sought.{Sought, sought_from}
 
--- the datagrams that are asked for, the types of messages whose values are told, what stands before each line, and the
--- limits of messages that are put together, if they are
+-- the datagrams that are asked for, the types of messages whose values are told, the form of the lines, what stands before
+-- each, and the limits of messages that are put together, if they are
 pub record AskedValue : Type 0 where
   pub wanted : WantedValue
   pub types : TypesValue
+  pub form : Form
   pub heads : Heads
   pub whole : Option Limits
 

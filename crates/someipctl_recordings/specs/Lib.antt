@@ -8,6 +8,7 @@ pub mod Files
 pub mod Wanted
 pub mod Sought
 pub mod Asked
+pub mod Origins
 pub mod RecordedText
 pub mod Scenes
 pub mod RecordingResult

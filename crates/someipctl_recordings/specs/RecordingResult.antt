@@ -27,6 +27,7 @@ abbrev pub view_asked : Asked → AskedValue
 view_asked asked = record {
   wanted = view_wanted asked.wanted;
   types = asked.types.now;
+  form = asked.form;
   heads = asked.heads;
   whole = option_map view_limits asked.whole;
 }

@@ -1,6 +1,7 @@
 //! What of recordings is asked for, and what is told of it.
 
 use crate::wanted::Wanted;
+use someipctl_io::Form;
 use someipctl_show::types::MessageTypes;
 
 /// What of recordings is asked for, and what is told of it.
@@ -10,7 +11,9 @@ pub struct Asked<'a> {
     pub wanted: Wanted<'a>,
     /// What payloads are read by, to tell their values.
     pub types: &'a MessageTypes,
-    /// What stands before each line.
+    /// The form of the lines.
+    pub form: Form,
+    /// What stands before each line, or in each object.
     pub heads: Heads,
     /// What bounds the messages that are put together from their segments. None puts none together.
     pub whole: Option<WholeLimits>,

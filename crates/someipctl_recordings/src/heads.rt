@@ -1,23 +1,27 @@
 //! Lines with the number of their packet, or the time and the endpoints of their datagram, before each.
 //!
 //! The head of a line is put before the lines of `show` and not into them, so that what is printed is
-//! defined by what `show` prints, and other programs can cut it off: it is the first words.
-ghost use Rattle.std.specs.Prelude.{◌≡◌, ◌∷◌, [], OnOk, OnErr, drop, map, true};
+//! defined by what `show` prints, and other programs can cut it off: it is the first words. Objects have the
+//! same as fields.
+ghost use Rattle.std.specs.Prelude.{◌≡◌, ◌∷◌, ◌++◌, [], OnOk, OnErr, drop, map, take, true};
 ghost use Rattle.recording.specs.View.{view_datagram};
 ghost use Rattle.recording_packets.specs.View.{view_arrival};
 ghost use Rattle.someipctl_io.specs.Sending.{Sends, Stops};
-ghost use Rattle.someipctl_recordings.specs.RecordedText.{endpoint_text, frame_text, head_text, line_head, nine_digits};
+ghost use Rattle.someipctl_io.specs.ToldLines.{field};
+ghost use Rattle.someipctl_io.specs.ToldViews.{view_field, view_said};
+ghost use Rattle.someipctl_recordings.specs.Gathered.{socket_of};
+ghost use Rattle.someipctl_recordings.specs.Origins.{endpoint_fields, fields_if, frame_field, said_of_time};
+ghost use Rattle.someipctl_recordings.specs.RecordedText.{endpoint_text, frame_text, head_text, line_head};
 ghost use Rattle.someipctl_recordings.specs.RecordedText.{text_if, time_text, with_heads};
 ghost use Rattle.someipctl_recordings.specs.Heads.{line_len};
 ghost use Rattle.someip_texts.specs.Words.{word_text};
-ghost use Rattle.std.specs.Net.Text.{socket_v4_text};
 
 use crate::asked::Heads;
-use recording::{Datagram, Endpoint, Time};
+use crate::reassembly::socket_of;
+use recording::{Datagram, Time};
 use recording_packets::Arrival;
-use someipctl_io::{Buffer, CannotWrite, Part, Word, put_parts, put_words};
+use someipctl_io::{Buffer, CannotWrite, Field, Part, Said, Word, put_parts, put_words};
 use std::io::Write;
-use std::net::{Ipv4Addr, SocketAddrV4};
 
 /// Prints the text of a datagram with what is asked for before each line.
 pub(crate) fn put_with_heads<W: Write>(
@@ -133,8 +137,8 @@ fn endpoint_words(datagram: &Datagram<'_>) -> [Word<'static>; 2]
     ensures { map word_text result ≡ endpoint_text datagram.now.from ∷ endpoint_text datagram.now.to ∷ [] }
 {
     [
-        Word::Endpoint(address_of(datagram.from)),
-        Word::Endpoint(address_of(datagram.to)),
+        Word::Endpoint(socket_of(datagram.from)),
+        Word::Endpoint(socket_of(datagram.to)),
     ]
 }
 
@@ -150,47 +154,61 @@ pub fn put_time<W: Write>(
         (time_text time)) }
 {
     match time {
-        Some(time) => {
-            put_parts(
-                buffer,
-                writer,
-                &[Part::Number(time.seconds as usize), Part::Text(".")],
-            )?;
-            put_nine_digits(buffer, writer, time.nanoseconds)
-        }
+        Some(time) => put_parts(
+            buffer,
+            writer,
+            &[
+                Part::Number(time.seconds as usize),
+                Part::Text("."),
+                Part::Nine(time.nanoseconds),
+            ],
+        ),
         None => put_parts(buffer, writer, &[Part::Text("-")]),
     }
 }
 
-/// Prints a number below 10^9 in nine digits.
-fn put_nine_digits<W: Write>(
-    buffer: &mut Buffer,
-    writer: &mut W,
-    number: u32,
-) -> Result<(), CannotWrite>
-    ensures ok { OnOk result (Sends (W.contents writer.old) buffer.old (W.contents writer.new)
-        buffer.new (nine_digits number)) }
-    ensures err { OnErr result (Stops (W.contents writer.old) buffer.old (W.contents writer.new)
-        (nine_digits number)) }
+/// The fields that say where a datagram came from: the number of its packet, its time and its endpoints.
+pub(crate) fn origin_fields(arrival: &Arrival<'_>) -> [Field<'static>; 4]
+    ensures { map view_field result ≡ frame_field arrival.now.frame
+        ∷ endpoint_fields (view_datagram arrival.now.datagram) }
 {
-    let mut digits = itoa::Buffer::new();
-    let text = digits.format(1_000_000_000 + u64::from(number)).as_bytes();
-    buffer.put(writer, without_first(text))
+    let datagram = &arrival.datagram;
+    [
+        told("#", "frame", Said::Number(arrival.frame)),
+        told("", "time", said_of_time(datagram.time)),
+        told("", "from", Said::Endpoint(socket_of(datagram.from))),
+        told("", "to", Said::Endpoint(socket_of(datagram.to))),
+    ]
 }
 
-/// The bytes after the first.
-fn without_first(bytes: &[u8]) -> &[u8]
-    ensures { result.now ≡ drop 1 bytes.now }
+/// Those of them that are asked for.
+pub(crate) fn asked_fields<'f>(heads: Heads, fields: &'f [Field<'f>; 4]) -> &'f [Field<'f>]
+    ensures { result.now ≡ fields_if heads.frame (take 1 fields.now) ++ fields_if heads.endpoints (drop 1 fields.now) }
 {
-    match bytes {
-        [] => bytes,
-        [_, others @ ..] => others,
+    match (heads.frame, heads.endpoints) {
+        (true, true) => fields,
+        (true, false) => &fields[..1],
+        (false, true) => &fields[1..],
+        (false, false) => &[],
     }
 }
 
-/// An endpoint, as the standard library knows it.
-fn address_of(endpoint: Endpoint) -> SocketAddrV4
-    ensures { socket_v4_text result ≡ endpoint_text endpoint }
+/// A field.
+fn told(lead: &'static str, key: &'static str, said: Said<'static>) -> Field<'static>
+    ensures { view_field result ≡ field lead.now key.now (view_said said.entry) }
 {
-    SocketAddrV4::new(Ipv4Addr::from_octets(endpoint.ip), endpoint.port)
+    Field { lead, key, said }
+}
+
+/// A time, which may not be there.
+fn said_of_time(time: Option<Time>) -> Said<'static>
+    ensures { view_said result ≡ said_of_time time }
+{
+    match time {
+        Some(time) => Said::Time {
+            seconds: time.seconds,
+            nanoseconds: time.nanoseconds,
+        },
+        None => Said::Nothing,
+    }
 }

@@ -1,11 +1,11 @@
 //! The command `recording`: the datagrams of recordings of network traffic, message by message, as they are
 //! read.
 ghost use Rattle.std.specs.Prelude.{◌≡◌, ◌≤◌, ◌<◌, ◌+◌, ◌^◌, [], ◌∷◌, Ok, OnOk, OnErr, IfErr, IfOk, length, map, option_map};
-ghost use Rattle.recording.specs.View.{view_datagram, view_record};
+ghost use Rattle.recording.specs.View.{view_record};
 ghost use Rattle.recording_packets.specs.LeftOut.{total};
 ghost use Rattle.recording_packets.specs.View.{view_arrival};
 ghost use Rattle.someipctl_recordings.specs.Gathered.{IsInTime, view_store};
-ghost use Rattle.someipctl_recordings.specs.Asked.{AskedValue, asked_from};
+ghost use Rattle.someipctl_recordings.specs.Asked.{asked_from};
 ghost use Rattle.someipctl_recordings.specs.RecordedText.{after_all, after_datagram, empty_store};
 ghost use Rattle.someipctl_recordings.specs.RecordedText.{AreRecorded, IsRecordedText};
 ghost use Rattle.someipctl_show.specs.TextKinds.{SendsOne, StopsOne};
@@ -15,8 +15,8 @@ ghost use Rattle.someipctl_recordings.specs.Sought.{after_items, is_full, learne
 ghost use Rattle.someipctl_recordings.specs.RecordingResult.{nothing_shown, progress_of};
 ghost use Rattle.someipctl_recordings.specs.RecordingResult.{shown_recording, view_asked, view_limits};
 
-use crate::asked::{Asked, Heads, WholeLimits};
-use crate::datagrams::{Numbered, Telling, put_recorded};
+use crate::asked::{Asked, WholeLimits};
+use crate::datagrams::{Telling, put_numbered};
 use crate::moments::moment_of;
 use crate::read_loop::{Coming, next_coming};
 use crate::sought::{is_full, learner_of, seeks};
@@ -285,7 +285,7 @@ fn put_record<S: Reassembly + Drop, W: Write>(
     if !seeks(alloc, &asked.wanted, &mut recorder.learner, &arrival)? {
         return Ok(());
     }
-    put_next(buffer, writer, arrival, asked.heads, recorder)
+    put_next(buffer, writer, arrival, asked, recorder)
 }
 
 /// Prints the text of the next datagram that is asked for, and counts it.
@@ -293,45 +293,43 @@ fn put_next<S: Reassembly + Drop, W: Write>(
     buffer: &mut Buffer,
     writer: &mut W,
     arrival: Arrival<'_>,
-    heads: Heads,
+    asked: &Asked<'_>,
     recorder: &mut Recorder<'_, S>,
 ) -> Result<(), PrintFault>
     requires empty { recorder.old.lines ≡ [] }
     requires few { recorder.old.shown.datagrams + 1 < 2 ^ 64 }
+    requires types { recorder.old.telling.values.types.now ≡ asked.now.types.now }
     requires in_time { IsInTime S.parts recorder.old.shown.now recorder.old.telling.store }
     ensures empty { OnOk result (recorder.new.lines ≡ []) }
-    ensures ok { (asked : AskedValue) → asked.types ≡ recorder.old.telling.values.types.now → asked.heads ≡ heads
-        → OnOk result (SendsOne (IsRecordedText asked
+    ensures ok { OnOk result (SendsOne (IsRecordedText (view_asked asked.now)
         (progress_of recorder.old.shown (view_store S.limits S.parts recorder.old.telling.store))
         (view_arrival arrival.entry)) (W.contents writer.old) buffer.old (W.contents writer.new) buffer.new) }
-    ensures progress { (asked : AskedValue) → asked.types ≡ recorder.old.telling.values.types.now
-        → OnOk result (progress_of recorder.new.shown (view_store S.limits S.parts recorder.new.telling.store)
-        ≡ after_datagram asked (progress_of recorder.old.shown (view_store S.limits S.parts recorder.old.telling.store))
-        (view_datagram arrival.entry.datagram)) }
+    ensures progress { OnOk result (progress_of recorder.new.shown (view_store S.limits S.parts recorder.new.telling.store)
+        ≡ after_datagram (view_asked asked.now)
+        (progress_of recorder.old.shown (view_store S.limits S.parts recorder.old.telling.store))
+        (view_arrival arrival.entry)) }
     ensures learner { recorder.new.learner ≡ recorder.old.learner }
     ensures one { OnOk result (recorder.new.shown.datagrams ≡ recorder.old.shown.datagrams + 1) }
     ensures in_time { OnOk result (IsInTime S.parts recorder.new.shown.now recorder.new.telling.store) }
-    ensures err { (asked : AskedValue) → asked.types ≡ recorder.old.telling.values.types.now → asked.heads ≡ heads
-        → OnErr result (StopsOne (IsRecordedText asked
+    ensures err { OnErr result (StopsOne (IsRecordedText (view_asked asked.now)
         (progress_of recorder.old.shown (view_store S.limits S.parts recorder.old.telling.store))
         (view_arrival arrival.entry)) (W.contents writer.old) buffer.old (W.contents writer.new)) }
     ensures types { recorder.new.telling.values.types.now ≡ recorder.old.telling.values.types.now }
 {
-    let next = Numbered {
-        k: recorder.shown.datagrams + 1,
-        now: moment_of(recorder.shown.now, arrival.datagram.time),
-        arrival,
-    };
-    let is_faulty = put_recorded(
+    let k = recorder.shown.datagrams + 1;
+    let now = moment_of(recorder.shown.now, arrival.datagram.time);
+    let is_faulty = put_numbered(
         buffer,
         writer,
-        &next,
-        heads,
+        k,
+        now,
+        arrival,
+        asked,
         &mut recorder.lines,
         &mut recorder.telling,
     )?;
-    recorder.shown.datagrams = next.k;
-    recorder.shown.now = next.now;
+    recorder.shown.datagrams = k;
+    recorder.shown.now = now;
     recorder.shown.is_faulty |= is_faulty;
     Ok(())
 }

@@ -18,15 +18,15 @@ use Rattle.someipctl_io.specs.declared.form.Form.TheVariants.{Plain, Json}
 use Rattle.someipctl_io.specs.declared.outcome.Outcome.{Outcome}
 use Rattle.someipctl_io.specs.Faults.{fault_of_print}
 use Rattle.someipctl_io.specs.Items.{item_len}
-use Rattle.someipctl_io.specs.ToldLines.{ToldField, ToldHead, fields_text}
-use Rattle.someipctl_io.specs.ToldItems.{datagram_head, item_text}
+use Rattle.someipctl_io.specs.ToldLines.{ToldField, ToldHead, fields_text, line_text}
+use Rattle.someipctl_io.specs.ToldItems.{datagram_head, head_from, item_text, value_lines, whole_told}
 use Rattle.someipctl_show.specs.declared.capture.BadCaptureLine.{BadCaptureLine}
 use Rattle.someipctl_show.specs.declared.services.AskedService.{AskedService}
 use Rattle.someipctl_show.specs.Capture.{captured_datagrams}
 use Rattle.someipctl_show.specs.Services.{asked_among}
 use Rattle.someipctl_show.specs.ShownText.{AreLines, AreTexts, ComesWith, IsDatagramText}
 use Rattle.someipctl_show.specs.ShowResult.{RefusesShow, Shows, ShowsBeginning}
-use Rattle.someipctl_show.specs.ShownForms.{AreFieldsOfItem, AreItemObjects, AreLinesIn, AreTextsIn, IsDatagramTextIn, IsItemTextIn, IsShownTextIn, RefusesShowIn, ShowsBeginningIn, ShowsIn, empty_in}
+use Rattle.someipctl_show.specs.ShownForms.{AreFieldsOfItem, AreItemObjects, AreLinesIn, AreTextsIn, AreWholeObjects, IsDatagramTextIn, IsItemTextFrom, IsItemTextIn, IsShownTextIn, RefusesShowIn, ShowsBeginningIn, ShowsIn, empty_in}
 use Rattle.someipctl_show.specs.TextKinds.{Joined, StopsOne}
 use Rattle.someipctl_show.specs.types.Types.{TypedMessageValue, TypesValue, table_for}
 use Rattle.someipctl_show.specs.types.ValueFields.{AreDecodedFields, AreFieldsBy, fault_fields, read_fields}
@@ -56,9 +56,17 @@ some_objects types head place item =
     let fs = some_fields types place item in
     (item_text Json head place (fields_text Json fs.0) item, (fields_text Json fs.0, (fs.0, fs.1, refl), refl))
 
+pub some_whole_objects : (types : TypesValue) (head : ToldHead) (m : MessageValue) → (text : List ℕ) × AreWholeObjects types head m text
+some_whole_objects types head m =
+    let fs = some_by (table_for types m.header) 0 m.payload in
+    (line_text Json head (whole_told m) ++ value_lines Json head (fields_text Json fs.0), (fields_text Json fs.0, (fs.0, fs.1, refl), refl))
+
+pub some_item_from : (form : LineForm) (origin : List ToldField) (types : TypesValue) (k place : ℕ) (item : Result MessageValue WireError) → (text : List ℕ) × IsItemTextFrom form origin types k place item text
+some_item_from Plain origin types k place item = some_item types k place item
+some_item_from Json origin types k place item = some_objects types (head_from origin k) place item
+
 pub some_item_in : (form : LineForm) (types : TypesValue) (k place : ℕ) (item : Result MessageValue WireError) → (text : List ℕ) × IsItemTextIn form types k place item text
-some_item_in Plain types k place item = some_item types k place item
-some_item_in Json types k place item = some_objects types (datagram_head k) place item
+some_item_in form types k place item = some_item_from form [] types k place item
 
 pub some_lines_in : (form : LineForm) (types : TypesValue) (k place : ℕ) (given : List (Result MessageValue WireError)) → (text : List ℕ) × AreLinesIn form types k place given text
 some_lines_in form types k place [] = ([], refl)

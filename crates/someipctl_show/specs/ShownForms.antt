@@ -13,7 +13,7 @@ use Rattle.someipctl_io.specs.Inputs.{WasLeft}
 use Rattle.someipctl_io.specs.Items.{item_len}
 use Rattle.someipctl_io.specs.Lines.{empty_line}
 use Rattle.someipctl_io.specs.ToldLines.{ToldField, ToldHead, line_text}
-use Rattle.someipctl_io.specs.ToldItems.{datagram_head, empty_told, item_text}
+use Rattle.someipctl_io.specs.ToldItems.{datagram_head, empty_told, head_from, item_text, value_lines, whole_told}
 use Rattle.someipctl_show.specs.declared.capture.BadCaptureLine.{BadCaptureLine}
 use Rattle.someipctl_show.specs.declared.services.AskedService.{AskedService}
 use Rattle.someipctl_show.specs.Services.{asked_among}
@@ -33,10 +33,19 @@ AreFieldsOfItem types place (Err fault) fields = fields ≡ []
 abbrev pub AreItemObjects : TypesValue → ToldHead → ℕ → Result MessageValue WireError → List ℕ → Type 0
 AreItemObjects types head place item text = (value : List ℕ) × IsFieldsText (AreFieldsOfItem types place item) value × (text ≡ item_text Json head place value item)
 
--- the lines of an item of the k-th datagram
+-- the objects of a message that a segment makes whole, behind a head: its own, and that of its value
+abbrev pub AreWholeObjects : TypesValue → ToldHead → MessageValue → List ℕ → Type 0
+AreWholeObjects types head m text =
+    (value : List ℕ) × IsFieldsText (AreValueFields types 0 m) value × (text ≡ line_text Json head (whole_told m) ++ value_lines Json head value)
+
+-- the lines of an item of the k-th datagram; objects have the fields that say where they came from
+abbrev pub IsItemTextFrom : Form → List ToldField → TypesValue → ℕ → ℕ → Result MessageValue WireError → List ℕ → Type 0
+IsItemTextFrom Plain origin types k place item text = IsItemText types k place item text
+IsItemTextFrom Json origin types k place item text = AreItemObjects types (head_from origin k) place item text
+
+-- the same of a capture, which does not say where a datagram came from
 abbrev pub IsItemTextIn : Form → TypesValue → ℕ → ℕ → Result MessageValue WireError → List ℕ → Type 0
-IsItemTextIn Plain types k place item text = IsItemText types k place item text
-IsItemTextIn Json types k place item text = AreItemObjects types (datagram_head k) place item text
+IsItemTextIn form types k place item text = IsItemTextFrom form [] types k place item text
 
 -- the lines of these items in order, the first of which begins at this place
 abbrev pub AreLinesIn : Form → TypesValue → ℕ → ℕ → List (Result MessageValue WireError) → List ℕ → Type 0

@@ -283,7 +283,7 @@ fn put_items<W: Write>(
             item: &item,
             found,
         };
-        faulty |= put_valued_item_in(buffer, writer, form, &shown, values)?;
+        faulty |= put_valued_item_in(buffer, writer, form, &[], &shown, values)?;
         place += item_len(&item);
     }
     Ok(faulty)

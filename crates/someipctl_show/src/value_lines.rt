@@ -7,14 +7,17 @@ ghost use Rattle.someipctl_io.specs.Items.{item_len};
 ghost use Rattle.someipctl_io.specs.ToldItems.{head_from};
 ghost use Rattle.someipctl_io.specs.ToldViews.{view_field};
 ghost use Rattle.someipctl_show.specs.ShownText.{ComesWith, IsItemText, IsValueOfItem, has_value_fault_in, shows_fault};
-ghost use Rattle.someipctl_show.specs.ShownForms.{AreFieldsOfItem, AreItemObjects, IsItemTextIn};
+ghost use Rattle.someipctl_show.specs.ShownForms.{AreFieldsOfItem, AreItemObjects, AreWholeObjects, IsItemTextFrom};
 ghost use Rattle.someipctl_show.specs.TextKinds.{SendsOne, StopsOne};
 ghost use Rattle.someipctl_show.specs.types.ValueFields.{AreValueFields, IsFieldsBehind, IsFieldsText};
 ghost use Rattle.someipctl_show.specs.types.ValueLine.{has_value_fault};
 
 use crate::types::MessageTypes;
 use someip_wire::{Message, WireError};
-use someipctl_io::{Buffer, Field, Form, FoundItem, PrintFault, put_item, put_item_objects};
+use someipctl_io::{
+    Buffer, Field, Form, FoundItem, PrintFault, put_item, put_item_objects, put_value_object,
+    put_whole_object,
+};
 use std::alloc::{AllocError, Global};
 use std::io::Write;
 use std::mem;
@@ -122,30 +125,59 @@ impl ValueLines<'_> {
     }
 }
 
-/// Prints the lines of an item, and that of its value, in the form that is asked for. Says whether a fault is
-/// among them.
+/// Prints the lines of an item, and that of its value, in the form that is asked for: objects with fields that
+/// say where they came from. Says whether a fault is among them.
 pub fn put_valued_item_in<W: Write>(
     buffer: &mut Buffer,
     writer: &mut W,
     form: Form,
+    origin: &[Field<'_>],
     shown: &FoundItem<'_>,
     values: &mut ValueLines<'_>,
 ) -> Result<bool, PrintFault>
     requires found { view_found shown.now.found ≡ discovery_in (view_item shown.now.item.now) }
     requires room { shown.now.place + item_len (view_item shown.now.item.now) ≤ usize.MAX }
-    ensures ok { OnOk result (SendsOne (IsItemTextIn form values.old.types.now shown.now.k shown.now.place
-        (view_item shown.now.item.now)) (W.contents writer.old) buffer.old (W.contents writer.new) buffer.new) }
+    ensures ok { OnOk result (SendsOne (IsItemTextFrom form (map view_field origin.now) values.old.types.now
+        shown.now.k shown.now.place (view_item shown.now.item.now))
+        (W.contents writer.old) buffer.old (W.contents writer.new) buffer.new) }
     ensures faulty { IfOk result (λ faulty.
         faulty ≡ shows_fault values.old.types.now (view_item shown.now.item.now)) }
-    ensures err { OnErr result (StopsOne (IsItemTextIn form values.old.types.now shown.now.k shown.now.place
-        (view_item shown.now.item.now)) (W.contents writer.old) buffer.old (W.contents writer.new)) }
+    ensures err { OnErr result (StopsOne (IsItemTextFrom form (map view_field origin.now) values.old.types.now
+        shown.now.k shown.now.place (view_item shown.now.item.now))
+        (W.contents writer.old) buffer.old (W.contents writer.new)) }
     ensures memory { IfErr result (ComesWith values.old.types.now) }
     ensures types { values.new.types.now ≡ values.old.types.now }
 {
     match form {
         Form::Plain => put_valued_item(buffer, writer, shown, values),
-        Form::Json => put_valued_objects(buffer, writer, &[], shown, values),
+        Form::Json => put_valued_objects(buffer, writer, origin, shown, values),
     }
+}
+
+/// Prints the object of a message that a segment made whole, and that of its value, with fields that say where
+/// they came from. Says whether a fault is told of the value.
+pub fn put_whole_objects<W: Write>(
+    buffer: &mut Buffer,
+    writer: &mut W,
+    origin: &[Field<'_>],
+    k: usize,
+    message: &Message<'_>,
+    values: &mut ValueLines<'_>,
+) -> Result<bool, PrintFault>
+    requires { 16 + length message.now.payload.now ≤ usize.MAX }
+    ensures ok { OnOk result (SendsOne (AreWholeObjects values.old.types.now
+        (head_from (map view_field origin.now) k) (view message.now))
+        (W.contents writer.old) buffer.old (W.contents writer.new) buffer.new) }
+    ensures faulty { IfOk result (λ faulty. faulty ≡ has_value_fault values.old.types.now (view message.now)) }
+    ensures err { OnErr result (StopsOne (AreWholeObjects values.old.types.now
+        (head_from (map view_field origin.now) k) (view message.now))
+        (W.contents writer.old) buffer.old (W.contents writer.new)) }
+    ensures types { values.new.types.now ≡ values.old.types.now }
+{
+    let faulty = values.make_fields(0, &Ok(*message))?;
+    put_whole_object(buffer, writer, origin, k, message)?;
+    put_value_object(buffer, writer, origin, k, &values.fields)?;
+    Ok(faulty)
 }
 
 /// Prints the objects of an item, and that of its value, with fields that say where they came from. Says

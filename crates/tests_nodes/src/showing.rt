@@ -1,6 +1,6 @@
 //! Commands that show datagrams, without what their options add.
 use someip_tp::IntervalPool;
-use someipctl_io::{Fault, Outcome};
+use someipctl_io::{Fault, Form, Outcome};
 use someipctl_recordings::{Asked, Heads, ShownRecording, StoppedAt, Wanted, show_recording};
 use someipctl_show::BadCaptureLine;
 use someipctl_show::show::show;
@@ -32,6 +32,7 @@ pub fn show_endpoints<R: Read, W: Write>(
             ..Wanted::all()
         },
         types: &types,
+        form: Form::Plain,
         heads: Heads {
             frame: false,
             endpoints: true,

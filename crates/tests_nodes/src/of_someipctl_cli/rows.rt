@@ -14,6 +14,7 @@ pub enum Call {
         expect: Option<&'static str>,
         begins: Option<&'static str>,
         lines: bool,
+        json: bool,
     },
     Show {
         capture: &'static str,
@@ -42,12 +43,14 @@ impl Call {
                 expect,
                 begins,
                 lines,
+                json,
             } => Command::Run {
                 setup,
                 schedule,
                 expect: *expect,
                 begins: *begins,
                 lines: *lines,
+                json: *json,
             },
             Show {
                 capture,
@@ -93,6 +96,7 @@ const NO_OPTIONS: RecordingOptions<'static> = RecordingOptions {
     ports: None,
     frames: false,
     endpoints: false,
+    json: false,
     service: None,
     types: None,
     whole: false,
@@ -111,6 +115,14 @@ pub const RECORDINGS: &[RecordingRow] = &[
         RecordingOptions {
             ports: Some("1,2"),
             endpoints: true,
+            ..NO_OPTIONS
+        },
+    ),
+    (
+        "someipctl|recording|x|--json",
+        &["x"],
+        RecordingOptions {
+            json: true,
             ..NO_OPTIONS
         },
     ),
@@ -189,6 +201,17 @@ pub const ROWS: &[Row] = &[
         },
     ),
     (
+        "someipctl|run|--json|x|y",
+        Run {
+            setup: "x",
+            schedule: "y",
+            expect: None,
+            begins: None,
+            lines: false,
+            json: true,
+        },
+    ),
+    (
         "someipctl|run|x|y",
         Run {
             setup: "x",
@@ -196,6 +219,7 @@ pub const ROWS: &[Row] = &[
             expect: None,
             begins: None,
             lines: false,
+            json: false,
         },
     ),
     (
@@ -206,6 +230,7 @@ pub const ROWS: &[Row] = &[
             expect: Some("t"),
             begins: None,
             lines: true,
+            json: false,
         },
     ),
     (
@@ -216,6 +241,7 @@ pub const ROWS: &[Row] = &[
             expect: None,
             begins: Some("t"),
             lines: false,
+            json: false,
         },
     ),
     (

@@ -4,6 +4,7 @@ use others::{ASKED, CROWDED, FILTERED, REFUSED};
 use packets::recording_of;
 use rows::{ROWS, Row, STANDING, UNTIMED};
 use someip_tp::{IntervalPool, Reassembly, SegmentList};
+use someipctl_io::Form;
 use someipctl_recordings::{Asked, Heads, Wanted, show_recording};
 use someipctl_show::types::MessageTypes;
 use std::alloc::{AllocError, Global};
@@ -40,6 +41,7 @@ fn shows<S: Reassembly + Drop>(
             ..Wanted::all()
         },
         types,
+        form: Form::Plain,
         heads: Heads {
             frame: false,
             endpoints: row.endpoints,

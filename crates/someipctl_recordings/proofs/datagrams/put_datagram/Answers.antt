@@ -1,10 +1,9 @@
 use Rattle.std.proofs.Common.{ap, sym, rules}
 use Rattle.recording.specs.View.{view_datagram}
 use Rattle.someipctl_recordings.specs.Gathered.{view_store}
-use Rattle.someipctl_recordings.specs.RecordedText.{AreLinesWith, IsSceneText, has_fault_with, store_after_all}
+use Rattle.someipctl_recordings.specs.RecordedText.{AreLinesWith, IsSceneText, empty_from, has_fault_with, store_after_all}
 use Rattle.someip_wire.specs.Reading.{items_of}
 use Rattle.std.proofs.lemmas.Result.{on_ok_weaker, on_err_weaker}
-use Rattle.someipctl_io.specs.Lines.{empty_line}
 use Rattle.someipctl_io.proofs.SendingLemmas.{OnErr-any}
 use Rattle.someipctl_show.proofs.KindLemmas.{sends_as, stops_as}
 use Rattle.someipctl_recordings.specs.Scenes.{scene_by}
@@ -21,17 +20,17 @@ returns-then-is_empty-clause-store g c =
     sym (ap (store_after_all (view_store g.S.Reassembly.limits g.S.Reassembly.parts c.args.telling.now.store) c.args.shown.now.now (view_datagram c.args.shown.now.arrival.datagram))
     (no_items c.args.shown.now.arrival.datagram.payload.now (search rules)))
 
-pub returns-in_err-put_empty-clause-err : goal.returns-in_err-put_empty-clause-err
-returns-in_err-put_empty-clause-err g c =
+pub returns-in_err-put_empty_from-clause-err : goal.returns-in_err-put_empty_from-clause-err
+returns-in_err-put_empty_from-clause-err g c =
     let scene = scene_by c.args.telling.now.values.types.now c.args.shown.now in
     let store = view_store g.S.Reassembly.limits g.S.Reassembly.parts c.args.telling.now.store in
-    OnErr-any c.from_residual.result (empty_line c.args.shown.now.k, empty_scene scene store (search rules), c.in_err-put_empty.ensures.err)
+    OnErr-any c.from_residual.result (empty_from scene.form scene.origin scene.k, empty_scene scene store (search rules), c.in_err-put_empty_from.ensures.err)
 
 pub returns-then-is_empty-clause-ok : goal.returns-then-is_empty-clause-ok
 returns-then-is_empty-clause-ok g c =
     let scene = scene_by c.args.telling.now.values.types.now c.args.shown.now in
     let store = view_store g.S.Reassembly.limits g.S.Reassembly.parts c.args.telling.now.store in
-    (empty_line c.args.shown.now.k, empty_scene scene store (search rules), c.in_ok-put_empty.ensures.ok)
+    (empty_from scene.form scene.origin scene.k, empty_scene scene store (search rules), c.in_ok-put_empty_from.ensures.ok)
 
 pub returns-clause-ok : goal.returns-clause-ok
 returns-clause-ok g c =

@@ -1,7 +1,7 @@
 use Rattle.recording.specs.View.{view_datagram}
 use Rattle.someip_wire.specs.View.{view_item}
 use Rattle.someipctl_io.proofs.SendingLemmas.{OnErr-any}
-use Rattle.someipctl_show.specs.ShownText.{IsItemText}
+use Rattle.someipctl_show.specs.ShownForms.{IsItemTextFrom}
 use Rattle.someipctl_show.proofs.KindLemmas.{sends_both, stops_first, stops_none, stops_second}
 use Rattle.someipctl_recordings.specs.Gathered.{told_of, view_store}
 use Rattle.someipctl_recordings.specs.RecordedText.{AreItemLines, IsGatheredText}
@@ -28,17 +28,19 @@ returns-in_err-is_item_faulty-clause-err g c =
     let types = c.args.telling.now.values.types.now in
     let item = view_item c.args.item.now in
     let told = told_of (view_store g.S.Reassembly.limits g.S.Reassembly.parts c.args.telling.now.store) c.args.shown.now.now (view_datagram c.args.shown.now.arrival.datagram) item in
-    let Own = IsItemText types c.args.shown.now.k c.args.place item in
-    let Gathered = IsGatheredText types c.args.shown.now.k told in
-    OnErr-any c.from_residual-in_err-is_item_faulty.result (stops_first Own Gathered _ _ _ c.in_err-is_item_faulty.ensures.err (some_gathered types c.args.shown.now.k told))
+    let scene = scene_by types c.args.shown.now in
+    let Own = IsItemTextFrom scene.form scene.origin types scene.k c.args.place item in
+    let Gathered = IsGatheredText scene told in
+    OnErr-any c.from_residual-in_err-is_item_faulty.result (stops_first Own Gathered _ _ _ c.in_err-is_item_faulty.ensures.err (some_gathered scene told))
 
 pub returns-in_err-is_whole_faulty-clause-err : goal.returns-in_err-is_whole_faulty-clause-err
 returns-in_err-is_whole_faulty-clause-err g c =
     let types = c.args.telling.now.values.types.now in
     let item = view_item c.args.item.now in
     let told = told_of (view_store g.S.Reassembly.limits g.S.Reassembly.parts c.args.telling.now.store) c.args.shown.now.now (view_datagram c.args.shown.now.arrival.datagram) item in
-    let Own = IsItemText types c.args.shown.now.k c.args.place item in
-    let Gathered = IsGatheredText types c.args.shown.now.k told in
+    let scene = scene_by types c.args.shown.now in
+    let Own = IsItemTextFrom scene.form scene.origin types scene.k c.args.place item in
+    let Gathered = IsGatheredText scene told in
     OnErr-any c.from_residual-in_err-is_whole_faulty.result
     (stops_second Own Gathered _ _ _ _ _ c.in_ok-is_item_faulty.ensures.ok
     (rw (c.in_ok-is_item_faulty.ensures.types, c.deref.ensures.value, c.in_ok-told.ensures.told) at c.in_err-is_whole_faulty.ensures.err))
@@ -48,7 +50,8 @@ returns-clause-ok g c =
     let types = c.args.telling.now.values.types.now in
     let item = view_item c.args.item.now in
     let told = told_of (view_store g.S.Reassembly.limits g.S.Reassembly.parts c.args.telling.now.store) c.args.shown.now.now (view_datagram c.args.shown.now.arrival.datagram) item in
-    let Own = IsItemText types c.args.shown.now.k c.args.place item in
-    let Gathered = IsGatheredText types c.args.shown.now.k told in
+    let scene = scene_by types c.args.shown.now in
+    let Own = IsItemTextFrom scene.form scene.origin types scene.k c.args.place item in
+    let Gathered = IsGatheredText scene told in
     sends_both Own Gathered _ _ _ _ _ _ c.in_ok-is_item_faulty.ensures.ok
     (rw (c.in_ok-is_item_faulty.ensures.types, c.deref.ensures.value, c.in_ok-told.ensures.told) at c.in_ok-is_whole_faulty.ensures.ok)

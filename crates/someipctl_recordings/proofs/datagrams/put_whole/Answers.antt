@@ -1,18 +1,18 @@
-use Rattle.std.proofs.Common.{◌++◌, Some, Ok, refl}
+use Rattle.std.proofs.Common.{◌++◌, [], refl}
 use Rattle.std.specs.Prelude.{string_bytes}
 use Rattle.someip_wire.specs.View.{view}
 use Rattle.someipctl_io.specs.Lines.{whole_line}
 use Rattle.someipctl_io.proofs.SendingLemmas.{OnErr-any, Sends-trans, Stops-after, Stops-before}
 use Rattle.someipctl_show.proofs.KindLemmas.{stops_none}
-use Rattle.someipctl_recordings.specs.RecordedText.{IsGatheredText}
-use Rattle.someipctl_recordings.proofs.SomeRecorded.{some_gathered}
+use Rattle.someipctl_io.specs.declared.form.Form.TheVariants.{Plain}
+use Rattle.someipctl_recordings.specs.RecordedText.{IsWholeText}
+use Rattle.someipctl_recordings.proofs.SomeRecorded.{some_whole}
 use Rattle.someipctl_recordings.proofs.datagrams.put_whole.Goals as goal
 
 pub returns-in_err-faulty-clause-err : goal.returns-in_err-faulty-clause-err
 returns-in_err-faulty-clause-err g c =
     let types = c.args.values.now.types.now in
-    let whole = Some (Ok (view c.args.message)) in
-    OnErr-any c.from_residual.result (stops_none (IsGatheredText types c.args.k whole) _ _ (some_gathered types c.args.k whole))
+    OnErr-any c.from_residual.result (stops_none (IsWholeText Plain [] types c.args.k (view c.args.message)) _ _ (some_whole Plain [] types c.args.k (view c.args.message)))
 
 pub returns-in_err-put_whole_line-clause-err : goal.returns-in_err-put_whole_line-clause-err
 returns-in_err-put_whole_line-clause-err g c =

@@ -89,7 +89,7 @@ returns-clause-ok g c =
     let ds = asked_from asked (record { intake = c.args.intake.now; learner = c.args.recorder.now.learner }) (Ok (view_record c.args.found.now) ∷ []) in
     on_ok_weaker c.put_next.result
     (sends_as (IsRecordedText asked p a) (AreRecorded asked p ds) _ _ _ _ (recorded_one asked p ds a (asked_one asked (record { intake = c.args.intake.now; learner = c.args.recorder.now.learner }) (view_record c.args.found.now) a one wanted)))
-    (c.put_next.ensures.ok asked (sym c.requires.types) refl)
+    c.put_next.ensures.ok
 
 pub returns-clause-progress : goal.returns-clause-progress
 returns-clause-progress g c =
@@ -99,7 +99,7 @@ returns-clause-progress g c =
     let asked = view_asked c.args.asked.now in
     let a = view_arrival c.in-Some.arrival in
     rw (after_one asked p (asked_from asked (record { intake = c.args.intake.now; learner = c.args.recorder.now.learner }) (Ok (view_record c.args.found.now) ∷ [])) a (asked_one asked (record { intake = c.args.intake.now; learner = c.args.recorder.now.learner }) (view_record c.args.found.now) a one wanted))
-    (c.put_next.ensures.progress asked (sym c.requires.types))
+    c.put_next.ensures.progress
 
 pub returns-clause-took : goal.returns-clause-took
 returns-clause-took g c =
@@ -122,4 +122,4 @@ returns-clause-err g c =
     let ds = asked_from asked (record { intake = c.args.intake.now; learner = c.args.recorder.now.learner }) (Ok (view_record c.args.found.now) ∷ []) in
     on_err_weaker c.put_next.result
     (stops_as (IsRecordedText asked p a) (AreRecorded asked p ds) _ _ _ (recorded_one asked p ds a (asked_one asked (record { intake = c.args.intake.now; learner = c.args.recorder.now.learner }) (view_record c.args.found.now) a one wanted)))
-    (c.put_next.ensures.err asked (sym c.requires.types) refl)
+    c.put_next.ensures.err
