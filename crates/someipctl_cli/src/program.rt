@@ -324,6 +324,7 @@ fn audit_wanted<'p, R: Files + Print + Eprint + Input + AllocGlobal>(
     let asked = AuditAsked {
         rules,
         wanted,
+        form: Form::Plain,
         frames: options.frames,
         form: line_form(options.json),
     };

@@ -5,3 +5,4 @@ pub mod SeenLemmas
 pub mod RunLemmas
 pub mod OneAudit
 pub mod ToldLemmas
+pub mod PlainLemmas

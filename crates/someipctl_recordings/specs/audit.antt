@@ -1,5 +1,6 @@
 pub mod Kinds
 pub mod Said
+pub mod ToldFindings
 pub mod Subjects
 pub mod AskedAudits
 pub mod AuditText

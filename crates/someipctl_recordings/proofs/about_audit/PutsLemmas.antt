@@ -1,27 +1,35 @@
 -- Lines that are printed, and of which the kind is told.
-use Rattle.std.proofs.Common.{◌≡◌, ℕ, false, true, List, [], ◌∷◌, ◌++◌, Option, Result, Ok, Err, ap, sym, ◌∙◌, append_assoc}
-use Rattle.std.proofs.lemmas.List.{append-nil}
+use Rattle.std.proofs.Common.{◌≡◌, ℕ, Bool, false, true, List, [], ◌∷◌, map, drop, Option, Result, Ok, Err, refl, ap}
+use Rattle.std.specs.Prelude.{if◌then◌else◌}
 use Rattle.std.specs.Result.{IsErr}
-use Rattle.someip_texts.specs.Words.{spaced}
+use Rattle.recording.specs.declared.Time.{Time}
+use Rattle.someip_tables.specs.declared.hashed.Origin.{Origin}
 use Rattle.someipctl_io.specs.declared.output.CannotWrite.{CannotWrite}
-use Rattle.someipctl_io.specs.Sending.{Sends, Stops}
-use Rattle.someipctl_io.specs.Words.{ended}
-use Rattle.someipctl_io.proofs.SendingLemmas.{Sends-trans, Stops-after}
+use Rattle.someipctl_io.specs.declared.told.Field.{Field}
+use Rattle.someipctl_io.specs.declared.told.LineHead.{LineHead}
+use Rattle.someipctl_io.specs.Sending.{Stops}
+use Rattle.someipctl_io.specs.ToldItems.{datagram_field}
+use Rattle.someipctl_io.specs.ToldViews.{view_field, view_head}
 use Rattle.someipctl_recordings.specs.declared.audit.kind.Kind.{Kind}
 use Rattle.someipctl_recordings.specs.audit.AuditText.{Puts}
+use Rattle.someipctl_recordings.specs.audit.ToldFindings.{audit_head, endpoint_fields, frame_field, origin_fields, time_field}
 
 -- printing it stopped
 pub puts_err : (text : List ℕ) (kind : Kind) (r : Result Kind CannotWrite) (a : Option (List ℕ)) (held : List ℕ) (b : Option (List ℕ)) (waits : List ℕ) → IsErr r → Stops a held b text → Puts text kind r a held b waits
 puts_err text kind (Ok k) a held b waits is stops = absurd (let same : false ≡ true = is in cc)
 puts_err text kind (Err e) a held b waits is stops = stops
 
--- after another text
-pub puts_behind : (front text : List ℕ) (kind : Kind) (r : Result Kind CannotWrite) (a : Option (List ℕ)) (held : List ℕ) (b : Option (List ℕ)) (waits : List ℕ) (c : Option (List ℕ)) (new : List ℕ)
-    → Sends a held b waits front → Puts text kind r b waits c new → Puts (front ++ text) kind r a held c new
-puts_behind front text kind (Ok k) a held b waits c new sends puts = (puts.0, Sends-trans a b c held waits new front text sends puts.1)
-puts_behind front text kind (Err e) a held b waits c new sends puts = Stops-after a b c held waits front text sends puts
+-- the packet stands before the time, if it is asked for
+origins_are : (frames : Bool) (time : Option Time) (origin : Origin) (origins : List Field) → map view_field origins ≡ frame_field origin.numbers.frame ∷ time_field time ∷ []
+    → map view_field (if frames then origins else drop 1 origins) ≡ origin_fields frames time origin
+origins_are true time origin origins is = is
+origins_are false time origin [] is = ap (drop 1) is
+origins_are false time origin (o ∷ os) is = ap (drop 1) is
 
--- the words of a line one after the other
-pub ended_words : (word : List ℕ) (words : List (List ℕ)) → spaced (word ∷ []) ++ ended words ≡ ended (word ∷ words)
-ended_words word words =
-    ap (λ (t : List ℕ). t ++ ended words) (append-nil (32 ∷ word)) ∙ sym (append_assoc (32 ∷ word) (spaced words) (10 ∷ []))
+-- the head of a line is that of its datagram
+pub head_is : (frames : Bool) (time : Option Time) (origin : Origin) (h : LineHead) (number origins place : List Field)
+    → h.number.now ≡ number → h.origin.now ≡ (if frames then origins else drop 1 origins) → h.place.now ≡ place
+    → map view_field number ≡ datagram_field origin.numbers.datagram ∷ [] → map view_field origins ≡ frame_field origin.numbers.frame ∷ time_field time ∷ [] → map view_field place ≡ endpoint_fields origin
+    → view_head h ≡ audit_head frames time origin
+head_is frames time origin h number origins place numbered originated placed number_is origins_is place_is =
+    rw (numbered, originated, placed, number_is, origins_are frames time origin origins origins_is, place_is) refl

@@ -149,7 +149,7 @@ has_some n (report ∷ reports) is = ap (nat_lt 0) is ∙ lt-ltb 0 (suc (length 
 
 pub end_puts : (asked : AskedAudit) (gone : Gone) (audit : Option AuditState) (later : Tally) (reports : List Report) (looked : Looked) (a : Option (List ℕ)) (held : List ℕ) (b : Option (List ℕ)) (waits : List ℕ) (c : Option (List ℕ)) (new : List ℕ) (shown : ShownRecording)
     → PutsLast asked gone.now audit gone.tally later a held b waits → Counts gone.tally reports looked
-    → ((all : List Report) → Counts later all looked → Sends b waits c new (summary_text looked all)) → shown.outcome ≡ fault_outcome (nat_lt 0 later.findings) → shown.is_full ≡ false
+    → ((all : List Report) → Counts later all looked → Sends b waits c new (summary_text asked.form looked all)) → shown.outcome ≡ fault_outcome (nat_lt 0 later.findings) → shown.is_full ≡ false
     → PutsEnd asked gone audit reports looked a held c new shown
 end_puts asked gone audit later reports looked a held b waits c new shown puts counts summary outcome full =
     let last = last_ends asked gone.now audit gone.tally later a held b waits puts in
@@ -157,20 +157,20 @@ end_puts asked gone audit later reports looked a held b waits c new shown puts c
     record {
       told = last.told;
       ends = last.ends;
-      sends = Sends-trans a b c held waits new (flat_map (fell_line asked) last.told) (summary_text looked (reports ++ fell_told asked last.told)) last.sends (summary (reports ++ fell_told asked last.told) all);
+      sends = Sends-trans a b c held waits new (flat_map (fell_line asked) last.told) (summary_text asked.form looked (reports ++ fell_told asked last.told)) last.sends (summary (reports ++ fell_told asked last.told) all);
       outcome = outcome ∙ ap fault_outcome (has_some later.findings (reports ++ fell_told asked last.told) all.findings);
       full = full;
     }
 
 pub end_stops : (asked : AskedAudit) (gone : Gone) (audit : Option AuditState) (later : Tally) (reports : List Report) (looked : Looked) (a : Option (List ℕ)) (held : List ℕ) (b : Option (List ℕ)) (waits : List ℕ) (c : Option (List ℕ))
     → PutsLast asked gone.now audit gone.tally later a held b waits → Counts gone.tally reports looked
-    → ((all : List Report) → Counts later all looked → Stops b waits c (summary_text looked all)) → StopsEnd asked gone audit reports looked a held c
+    → ((all : List Report) → Counts later all looked → Stops b waits c (summary_text asked.form looked all)) → StopsEnd asked gone audit reports looked a held c
 end_stops asked gone audit later reports looked a held b waits c puts counts summary =
     let last = last_ends asked gone.now audit gone.tally later a held b waits puts in
     inr (record {
       told = last.told;
       ends = last.ends;
-      stops = Stops-after a b c held waits (flat_map (fell_line asked) last.told) (summary_text looked (reports ++ fell_told asked last.told)) last.sends
+      stops = Stops-after a b c held waits (flat_map (fell_line asked) last.told) (summary_text asked.form looked (reports ++ fell_told asked last.told)) last.sends
           (summary (reports ++ fell_told asked last.told) (last.counts reports looked counts));
     })
 
@@ -420,11 +420,11 @@ told_end asked ds reports told =
 
 -- the text before the summary, and with it
 text_end : (asked : AskedAudit) (ds : List ArrivalValue) (reports : List Report) (told : List FellDue) (looked : Looked)
-    → report_lines asked ds reports ++ (flat_map (fell_line asked) told ++ summary_text looked (told_of asked ds reports ++ fell_told asked told))
+    → report_lines asked ds reports ++ (flat_map (fell_line asked) told ++ summary_text asked.form looked (told_of asked ds reports ++ fell_told asked told))
     ≡ audit_text asked ds (reports ++ map fell told) looked
 text_end asked ds reports told looked =
-    let summary = summary_text looked (told_of asked ds (reports ++ map fell told)) in
-    ap (λ (l : List Report). report_lines asked ds reports ++ (flat_map (fell_line asked) told ++ summary_text looked l)) (told_end asked ds reports told)
+    let summary = summary_text asked.form looked (told_of asked ds (reports ++ map fell told)) in
+    ap (λ (l : List Report). report_lines asked ds reports ++ (flat_map (fell_line asked) told ++ summary_text asked.form looked l)) (told_end asked ds reports told)
     ∙ sym (append_assoc (report_lines asked ds reports) (flat_map (fell_line asked) told) summary)
     ∙ ap (λ (t : List ℕ). (report_lines asked ds reports ++ t) ++ summary) (fell_text asked ds told)
     ∙ ap (λ (t : List ℕ). t ++ summary) (lines_on asked ds reports (map fell told))
@@ -471,7 +471,7 @@ audit_whole asked inputs ares k r before after later last held waits rest audit 
       goes.0,
       subst (λ l. Sends before [] last rest (audit_text asked ds (is.reports ++ map fell end.told) l)) (sym goes.1)
           (subst (Sends before [] last rest) (text_end asked ds is.reports end.told is.looked)
-          (Sends-trans before later last [] waits rest (report_lines asked ds is.reports) (flat_map (fell_line asked) end.told ++ summary_text is.looked (told_now asked is.done is.reports ++ fell_told asked end.told))
+          (Sends-trans before later last [] waits rest (report_lines asked ds is.reports) (flat_map (fell_line asked) end.told ++ summary_text asked.form is.looked (told_now asked is.done is.reports ++ fell_told asked end.told))
           (sent_before asked inputs ares k r before after later held waits audit gone s is sends) end.sends)),
       end.outcome ∙ ap (λ (l : List Report). fault_outcome (has_findings l)) (told_end asked ds is.reports end.told),
     ) in
@@ -549,7 +549,7 @@ whole_stops asked inputs ares k r before after later last held waits audit gone 
       goes.0,
       subst (λ l. Stops before [] last (audit_text asked ds (is.reports ++ map fell end.told) l)) (sym goes.1)
           (subst (Stops before [] last) (text_end asked ds is.reports end.told is.looked)
-          (Stops-after before later last [] waits (report_lines asked ds is.reports) (flat_map (fell_line asked) end.told ++ summary_text is.looked (told_now asked is.done is.reports ++ fell_told asked end.told))
+          (Stops-after before later last [] waits (report_lines asked ds is.reports) (flat_map (fell_line asked) end.told ++ summary_text asked.form is.looked (told_now asked is.done is.reports ++ fell_told asked end.told))
           (sent_before asked inputs ares k r before after later held waits audit gone s is sends) end.stops)),
     ))
 

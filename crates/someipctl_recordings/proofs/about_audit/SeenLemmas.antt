@@ -17,7 +17,7 @@ use Rattle.someipctl_recordings.specs.Wanted.{WantedValue}
 use Rattle.someipctl_recordings.specs.declared.audit.audits.Gone.{Gone}
 use Rattle.someipctl_recordings.specs.declared.audit.subject.Subject.{Subject}
 use Rattle.someipctl_recordings.specs.audit.AskedAudits.{AskedAudit}
-use Rattle.someipctl_recordings.specs.audit.AuditText.{Looked, due_line, fell_line, finding_line, found_line, is_due_told, is_found_told, is_report_told, line_if, origin_of_due, plain_line, report_line, report_lines, time_at, time_of, told_of}
+use Rattle.someipctl_recordings.specs.audit.AuditText.{Looked, due_line, fell_line, finding_line, found_line, is_due_told, is_found_told, is_report_told, line_if, line_of_report, origin_of_due, report_line, report_lines, time_at, time_of, told_of}
 use Rattle.someipctl_recordings.specs.audit.Subjects.{ChoosesNone, is_told, subject, subject_of_due}
 use Rattle.someipctl_recordings.specs.audit.SeenIn.{AuditsSome, StopsAt, Tells, TellsSome, audit_at, looked_more, looked_of, none_looked, seen_from, seen_in, seen_next}
 use Rattle.someipctl_recordings.specs.audit.Steps.{fell_told, is_told_at, line_at}
@@ -131,15 +131,15 @@ if_more true line report told f is = ap (λ (t : List ℕ). t ++ flat_map f told
 if_more false line report told f is = refl
 
 -- the lines are those of what is told
-pub lines_are_of_told : (asked : AskedAudit) (all : List ArrivalValue) (reports : List Report) → report_lines asked all reports ≡ flat_map (plain_line asked all) (told_of asked all reports)
+pub lines_are_of_told : (asked : AskedAudit) (all : List ArrivalValue) (reports : List Report) → report_lines asked all reports ≡ flat_map (line_of_report asked all) (told_of asked all reports)
 lines_are_of_told asked all [] = refl
 lines_are_of_told asked all (fell told ∷ reports) =
     ap (λ (t : List ℕ). fell_line asked told ++ t) (lines_are_of_told asked all reports)
-    ∙ if_more (is_due_told asked told) (due_line asked.frames told) (fell told) (told_of asked all reports) (plain_line asked all) refl
+    ∙ if_more (is_due_told asked told) (due_line asked.form asked.frames told) (fell told) (told_of asked all reports) (line_of_report asked all) refl
 lines_are_of_told asked all (found origin finding ∷ reports) =
     let time = time_of all origin.numbers.datagram in
     ap (λ (t : List ℕ). found_line asked time origin finding ++ t) (lines_are_of_told asked all reports)
-    ∙ if_more (is_found_told asked time origin finding) (finding_line asked.frames time origin finding) (found origin finding) (told_of asked all reports) (plain_line asked all) refl
+    ∙ if_more (is_found_told asked time origin finding) (finding_line asked.form asked.frames time origin finding) (found origin finding) (told_of asked all reports) (line_of_report asked all) refl
 
 -- where nothing is chosen, each finding is told
 always : (w : WantedValue) (time : Option Time) (origin : Origin) (subject : Option Subject) → ChoosesNone w → is_told w time origin subject ≡ true

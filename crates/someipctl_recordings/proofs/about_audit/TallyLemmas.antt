@@ -5,6 +5,7 @@ use Rattle.std.proofs.lemmas.List.{get_or-set_other, get_or-set_same, length-set
 use Rattle.std.proofs.lemmas.List.Sums.{sum_by_push}
 use Rattle.std.specs.List.{flat_map, slice_index, slice_set}
 use Rattle.someip_audit.specs.Audits.{Report}
+use Rattle.someipctl_io.specs.declared.form.Form.{Form}
 use Rattle.someipctl_recordings.specs.declared.audit.kind.Kind.{Kind}
 use Rattle.someipctl_recordings.specs.declared.audit.kind.Kind.TheVariants.{Malformed}
 use Rattle.someipctl_recordings.specs.declared.audit.tally.Tally.{Tally}
@@ -14,21 +15,22 @@ use Rattle.someipctl_recordings.specs.audit.Tallies.{Counts, tally_after, tally_
 
 -- ---- the summary
 
-same_kinds : (t : Tally) (reports : List Report) (looked : Looked) (kinds : List Kind) → Counts t reports looked
-    → tally_kinds t.kinds kinds ≡ flat_map (λ kind. kind_line kind (count_of kind reports)) kinds
-same_kinds t reports looked [] counts = refl
-same_kinds t reports looked (kind ∷ kinds) counts =
-    ap (λ n. kind_line kind n ++ tally_kinds t.kinds kinds) (counts.kinds kind)
-    ∙ ap (λ (text : List ℕ). kind_line kind (count_of kind reports) ++ text) (same_kinds t reports looked kinds counts)
+same_kinds : (form : Form) (t : Tally) (reports : List Report) (looked : Looked) (kinds : List Kind) → Counts t reports looked
+    → tally_kinds form t.kinds kinds ≡ flat_map (λ kind. kind_line form kind (count_of kind reports)) kinds
+same_kinds form t reports looked [] counts = refl
+same_kinds form t reports looked (kind ∷ kinds) counts =
+    ap (λ n. kind_line form kind n ++ tally_kinds form t.kinds kinds) (counts.kinds kind)
+    ∙ ap (λ (text : List ℕ). kind_line form kind (count_of kind reports) ++ text) (same_kinds form t reports looked kinds counts)
 
 same_looked : (t : Tally) (reports : List Report) (looked : Looked) → Counts t reports looked → looked_in t ≡ looked
 same_looked t reports looked counts = rw (counts.datagrams, counts.messages) refl
 
-pub same_summary : (t : Tally) (reports : List Report) (looked : Looked) → Counts t reports looked → tally_line t ++ tally_kinds t.kinds all_kinds ≡ summary_text looked reports
-same_summary t reports looked counts =
-    ap (λ l. audited_line l t.findings ++ tally_kinds t.kinds all_kinds) (same_looked t reports looked counts)
-    ∙ ap (λ n. audited_line looked n ++ tally_kinds t.kinds all_kinds) counts.findings
-    ∙ ap (λ (text : List ℕ). audited_line looked (length reports) ++ text) (same_kinds t reports looked all_kinds counts)
+pub same_summary : (form : Form) (t : Tally) (reports : List Report) (looked : Looked) → Counts t reports looked
+    → tally_line form t ++ tally_kinds form t.kinds all_kinds ≡ summary_text form looked reports
+same_summary form t reports looked counts =
+    ap (λ l. audited_line form l t.findings ++ tally_kinds form t.kinds all_kinds) (same_looked t reports looked counts)
+    ∙ ap (λ n. audited_line form looked n ++ tally_kinds form t.kinds all_kinds) counts.findings
+    ∙ ap (λ (text : List ℕ). audited_line form looked (length reports) ++ text) (same_kinds form t reports looked all_kinds counts)
 
 -- ---- one more
 

@@ -1,14 +1,16 @@
 -- What an audit goes by.
 use Rattle.std.specs.Prelude.{Bool, ◌||◌, is_none}
 use Rattle.someip_audit.specs.declared.AuditRules.{AuditRules}
+use Rattle.someipctl_io.specs.declared.form.Form.{Form}
 use Rattle.someipctl_recordings.specs.declared.audit.asked.AuditAsked.{AuditAsked}
 use Rattle.someipctl_recordings.specs.Wanted.{WantedValue, view_wanted}
 
 -- its settings; which packets and ports are looked at, and of which services, clients, addresses and times findings are told;
--- and whether the number of a packet stands before each line
+-- the form of the lines; and whether each tells the number of its packet
 pub record AskedAudit : Type 0 where
   pub rules : AuditRules
   pub wanted : WantedValue
+  pub form : Form
   pub frames : Bool
 
 -- endpoints are learnt where that is asked for, and where no ports are named
@@ -17,4 +19,4 @@ learns w = w.learned || is_none w.ports
 
 -- by the program's values
 abbrev pub view_asked : AuditAsked → AskedAudit
-view_asked asked = record { rules = asked.rules; wanted = view_wanted asked.wanted; frames = asked.frames }
+view_asked asked = record { rules = asked.rules; wanted = view_wanted asked.wanted; form = asked.form; frames = asked.frames }

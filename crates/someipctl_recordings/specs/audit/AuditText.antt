@@ -12,16 +12,21 @@ use Rattle.someip_audit.specs.declared.FellDue.TheVariants as due
 use Rattle.someip_audit.specs.FellDues.{deadline}
 use Rattle.someip_audit.specs.Audits.{Report, fell, found}
 use Rattle.someipctl_io.specs.declared.CannotWrite.{CannotWrite}
+use Rattle.someipctl_io.specs.declared.form.Form.{Form}
+use Rattle.someipctl_io.specs.declared.form.Form.TheVariants.{Plain, Json}
 use Rattle.someipctl_io.specs.Sending.{Sends, Stops}
+use Rattle.someipctl_io.specs.ToldLines.{ToldField, ToldHead, ToldLine, field, line_text, number}
 use Rattle.someip_texts.specs.Words.{spaced}
+use Rattle.someipctl_show.specs.VerdictForms.{no_head, wordless}
 use Rattle.someipctl_recordings.specs.RecordedText.{frame_text, text_if, time_text}
 use Rattle.someipctl_recordings.specs.declared.audit.kind.Kind.{Kind}
 use Rattle.someipctl_recordings.specs.audit.AskedAudits.{AskedAudit}
-use Rattle.someipctl_recordings.specs.audit.Kinds.{all_kinds, kind_number, kind_words}
+use Rattle.someipctl_recordings.specs.audit.Kinds.{all_kinds, kind_name, kind_number, kind_words}
 use Rattle.someipctl_recordings.specs.audit.Said.{Said, said, said_of_due, said_text}
+use Rattle.someipctl_recordings.specs.audit.ToldFindings.{audit_head, due_told, finding_told, kind_told}
 use Rattle.someipctl_recordings.specs.audit.Subjects.{is_told, subject, subject_of_due}
 
--- ---- a line
+-- ---- a plain line
 
 -- what stands before what is said: the number of the packet, if it is asked for, a time, the number of the datagram, where it came
 -- from and where it went to
@@ -30,8 +35,11 @@ head_text frames time origin =
     text_if frames (frame_text origin.numbers.frame)
     ++ (time_text time ++ spaced (decimal origin.numbers.datagram ∷ socket_v4_text origin.from ∷ socket_v4_text origin.to ∷ []))
 
+-- that, and the words of what is said
 abbrev pub line_of : Bool → Option Time → Origin → Said → List ℕ
 line_of frames time origin s = head_text frames time origin ++ said_text s
+
+-- ---- a line in a form
 
 -- a line where it is told
 abbrev pub line_if : Bool → List ℕ → List ℕ
@@ -50,12 +58,12 @@ origin_of_due (due.Expired told) = told.offer.origin
 origin_of_due (due.SubscribeUnanswered told) = told.origin
 
 -- the line of what fell due, at its deadline
-abbrev pub due_line : Bool → FellDue → List ℕ
-due_line frames told = line_of frames (Some (time_at (deadline told))) (origin_of_due told) (said_of_due told)
+abbrev pub due_line : Form → Bool → FellDue → List ℕ
+due_line form frames told = line_text form (audit_head frames (Some (time_at (deadline told))) (origin_of_due told)) (due_told told)
 
 -- the line of a finding of a datagram with this time
-abbrev pub finding_line : Bool → Option Time → Origin → Finding → List ℕ
-finding_line frames time origin finding = line_of frames time origin (said finding)
+abbrev pub finding_line : Form → Bool → Option Time → Origin → Finding → List ℕ
+finding_line form frames time origin finding = line_text form (audit_head frames time origin) (finding_told finding)
 
 -- what fell due is told
 abbrev pub is_due_told : AskedAudit → FellDue → Bool
@@ -63,7 +71,7 @@ is_due_told asked told = is_told asked.wanted (Some (time_at (deadline told))) (
 
 -- its line, if it is
 abbrev pub fell_line : AskedAudit → FellDue → List ℕ
-fell_line asked told = line_if (is_due_told asked told) (due_line asked.frames told)
+fell_line asked told = line_if (is_due_told asked told) (due_line asked.form asked.frames told)
 
 -- a finding of a datagram with this time is told
 abbrev pub is_found_told : AskedAudit → Option Time → Origin → Finding → Bool
@@ -71,7 +79,7 @@ is_found_told asked time origin finding = is_told asked.wanted time origin (subj
 
 -- its line, if it is
 abbrev pub found_line : AskedAudit → Option Time → Origin → Finding → List ℕ
-found_line asked time origin finding = line_if (is_found_told asked time origin finding) (finding_line asked.frames time origin finding)
+found_line asked time origin finding = line_if (is_found_told asked time origin finding) (finding_line asked.form asked.frames time origin finding)
 
 -- the time of the datagram with this number, counted from 1
 abbrev pub time_of : List ArrivalValue → ℕ → Option Time
@@ -92,9 +100,9 @@ report_line asked arrivals (fell told) = fell_line asked told
 report_line asked arrivals (found origin finding) = found_line asked (time_of arrivals origin.numbers.datagram) origin finding
 
 -- the line of a report, told or not
-abbrev pub plain_line : AskedAudit → List ArrivalValue → Report → List ℕ
-plain_line asked arrivals (fell told) = due_line asked.frames told
-plain_line asked arrivals (found origin finding) = finding_line asked.frames (time_of arrivals origin.numbers.datagram) origin finding
+abbrev pub line_of_report : AskedAudit → List ArrivalValue → Report → List ℕ
+line_of_report asked arrivals (fell told) = due_line asked.form asked.frames told
+line_of_report asked arrivals (found origin finding) = finding_line asked.form asked.frames (time_of arrivals origin.numbers.datagram) origin finding
 
 abbrev pub report_lines : AskedAudit → List ArrivalValue → List Report → List ℕ
 report_lines asked arrivals reports = flat_map (report_line asked arrivals) reports
@@ -115,23 +123,39 @@ pub record Looked : Type 0 where
   pub datagrams : ℕ
   pub messages : ℕ
 
--- its first line
-abbrev pub audited_line : Looked → ℕ → List ℕ
-audited_line looked findings =
+-- what its first line tells: how many datagrams and messages, and how many findings are told
+abbrev pub audited_told : Looked → ℕ → ToldLine
+audited_told looked findings =
+    wordless (codes "audited")
+    (field [] (codes "datagrams") (number looked.datagrams) ∷ field [] (codes "messages") (number looked.messages) ∷ field [] (codes "findings") (number findings) ∷ [])
+
+-- its first line: plain a sentence
+abbrev pub audited_line : Form → Looked → ℕ → List ℕ
+audited_line Plain looked findings =
     codes "audited " ++ (decimal looked.datagrams ++ (codes " datagrams, " ++ (decimal looked.messages ++ (codes " messages, " ++ (decimal findings ++ codes " findings\n")))))
+audited_line Json looked findings = line_text Json no_head (audited_told looked findings)
 
--- the line of a kind of which so many were told, if any were
-abbrev pub kind_line : Kind → ℕ → List ℕ
-kind_line kind n = if n == 0 then [] else kind_words kind ++ (codes " " ++ (decimal n ++ codes "\n"))
+-- what the line of a kind tells: how many of it are told
+abbrev pub counted_told : Kind → ℕ → ToldLine
+counted_told kind n = wordless (kind_name kind) (field [] (codes "count") (number n) ∷ [])
 
-abbrev pub summary_text : Looked → List Report → List ℕ
-summary_text looked reports = audited_line looked (length reports) ++ flat_map (λ kind. kind_line kind (count_of kind reports)) all_kinds
+-- the line of a kind of which so many are told: plain its words and how many
+abbrev pub counted_line : Form → Kind → ℕ → List ℕ
+counted_line Plain kind n = kind_words kind ++ (codes " " ++ (decimal n ++ codes "\n"))
+counted_line Json kind n = line_text Json no_head (counted_told kind n)
+
+-- that line, if any are
+abbrev pub kind_line : Form → Kind → ℕ → List ℕ
+kind_line form kind n = if n == 0 then [] else counted_line form kind n
+
+abbrev pub summary_text : Form → Looked → List Report → List ℕ
+summary_text form looked reports = audited_line form looked (length reports) ++ flat_map (λ kind. kind_line form kind (count_of kind reports)) all_kinds
 
 -- ---- the whole
 
 -- the text of these reports of these datagrams: the lines of those that are told, and their summary
 abbrev pub audit_text : AskedAudit → List ArrivalValue → List Report → Looked → List ℕ
-audit_text asked arrivals reports looked = report_lines asked arrivals reports ++ summary_text looked (told_of asked arrivals reports)
+audit_text asked arrivals reports looked = report_lines asked arrivals reports ++ summary_text asked.form looked (told_of asked arrivals reports)
 
 -- ---- what becomes of a line
 
@@ -139,3 +163,7 @@ audit_text asked arrivals reports looked = report_lines asked arrivals reports +
 abbrev pub Puts : List ℕ → Kind → Result Kind CannotWrite → Option (List ℕ) → List ℕ → Option (List ℕ) → List ℕ → Type 0
 Puts text kind (Ok told) before held after waits = (told ≡ kind) × Sends before held after waits text
 Puts text kind (Err e) before held after waits = Stops before held after text
+
+-- the line of a kind with these fields
+abbrev pub PutsLine : Form → ToldHead → Kind → List ToldField → Result Kind CannotWrite → Option (List ℕ) → List ℕ → Option (List ℕ) → List ℕ → Type 0
+PutsLine form head kind fields result before held after waits = Puts (line_text form head (kind_told kind fields)) kind result before held after waits

@@ -1,5 +1,5 @@
 -- The kinds of findings, as the summary of an audit names them.
-use Rattle.std.specs.Prelude.{ℕ, List, [], ◌∷◌, codes}
+use Rattle.std.specs.Prelude.{ℕ, ◌==◌, if◌then◌else◌, List, [], ◌∷◌, map, codes}
 use Rattle.someipctl_recordings.specs.declared.audit.kind.Kind.{Kind}
 use Rattle.someipctl_recordings.specs.declared.audit.kind.Kind.TheVariants.{Malformed, Reboot, SdSession, Unanswered, Late, Unasked, Repeated, KeyReused, EventRepeated, EventGap, EventUnsubscribed, Segments, SegmentsMissing, OfferExpired, OfferMoved, Nack, SubscribeUnanswered, Full}
 
@@ -23,6 +23,10 @@ kind_words OfferMoved = codes "offer moved"
 kind_words Nack = codes "nack"
 kind_words SubscribeUnanswered = codes "subscribe unanswered"
 kind_words Full = codes "full"
+
+-- its name in an object: its words, with `-` between them
+abbrev pub kind_name : Kind → List ℕ
+kind_name kind = map (λ b. if b == 0x20 then 0x2D else b) (kind_words kind)
 
 -- all of them, in the order of the summary
 unfoldable pub all_kinds : List Kind

@@ -78,7 +78,7 @@ EndsWith now (Some state) told = (after : AuditState) × Drains now state told a
 pub record PutsEnd (asked : AskedAudit) (gone : Gone) (audit : Option AuditState) (reports : List Report) (looked : Looked) (a : Option (List ℕ)) (held : List ℕ) (b : Option (List ℕ)) (waits : List ℕ) (shown : ShownRecording) : Type 0 where
   pub told : List FellDue
   pub ends : EndsWith gone.now audit told
-  pub sends : Sends a held b waits (flat_map (fell_line asked) told ++ summary_text looked (reports ++ fell_told asked told))
+  pub sends : Sends a held b waits (flat_map (fell_line asked) told ++ summary_text asked.form looked (reports ++ fell_told asked told))
   pub outcome : shown.outcome ≡ fault_outcome (has_findings (reports ++ fell_told asked told))
   pub full : shown.is_full ≡ false
 
@@ -86,7 +86,7 @@ pub record PutsEnd (asked : AskedAudit) (gone : Gone) (audit : Option AuditState
 pub record StopsSummary (asked : AskedAudit) (gone : Gone) (audit : Option AuditState) (reports : List Report) (looked : Looked) (a : Option (List ℕ)) (held : List ℕ) (b : Option (List ℕ)) : Type 0 where
   pub told : List FellDue
   pub ends : EndsWith gone.now audit told
-  pub stops : Stops a held b (flat_map (fell_line asked) told ++ summary_text looked (reports ++ fell_told asked told))
+  pub stops : Stops a held b (flat_map (fell_line asked) told ++ summary_text asked.form looked (reports ++ fell_told asked told))
 
 abbrev pub StopsEnd : AskedAudit → Gone → Option AuditState → List Report → Looked → Option (List ℕ) → List ℕ → Option (List ℕ) → Type 0
 StopsEnd asked gone audit reports looked a held b = StopsLast asked gone.now audit a held b ⊎ StopsSummary asked gone audit reports looked a held b

@@ -2,6 +2,7 @@
 use Rattle.std.specs.Prelude.{◌≡◌, ℕ, ◌+◌, max, List, length, slice_index, slice_set, Option, None, Some}
 use Rattle.std.specs.List.{flat_map}
 use Rattle.someip_audit.specs.Audits.{Report}
+use Rattle.someipctl_io.specs.declared.form.Form.{Form}
 use Rattle.someipctl_recordings.specs.declared.audit.kind.Kind.{Kind}
 use Rattle.someipctl_recordings.specs.declared.audit.tally.Tally.{Tally}
 use Rattle.someipctl_recordings.specs.audit.Kinds.{kind_number}
@@ -41,8 +42,8 @@ pub record Counts (t : Tally) (reports : List Report) (looked : Looked) : Type 0
 abbrev pub looked_in : Tally → Looked
 looked_in t = record { datagrams = t.datagrams; messages = t.messages }
 
-abbrev pub tally_line : Tally → List ℕ
-tally_line t = audited_line (looked_in t) t.findings
+abbrev pub tally_line : Form → Tally → List ℕ
+tally_line form t = audited_line form (looked_in t) t.findings
 
-abbrev pub tally_kinds : List ℕ → List Kind → List ℕ
-tally_kinds numbers kinds = flat_map (λ kind. kind_line kind (slice_index numbers (kind_number kind))) kinds
+abbrev pub tally_kinds : Form → List ℕ → List Kind → List ℕ
+tally_kinds form numbers kinds = flat_map (λ kind. kind_line form kind (slice_index numbers (kind_number kind))) kinds

@@ -14,6 +14,7 @@ use Rattle.audit_sd.specs.declared.receivers.Delivery.{Delivery}
 use Rattle.audit_traffic.specs.declared.segments.Missing.{Missing}
 use Rattle.audit_sd.specs.declared.subscriptions.SubscriptionKey.{SubscriptionKey}
 use Rattle.audit_sd.specs.declared.subscriptions.Unanswered.{Unanswered as UnansweredSubscribe}
+use Rattle.someipctl_io.specs.declared.form.Form.TheVariants.{Plain}
 use Rattle.someipctl_show.specs.declared.services.AskedService.{AskedService}
 use Rattle.someipctl_recordings.specs.Wanted.{WantedValue, all_wanted}
 use Rattle.someipctl_recordings.specs.audit.AskedAudits.{AskedAudit}
@@ -95,6 +96,7 @@ abbrev asks : WantedValue → AskedAudit
 asks wanted = record {
   rules = record { limit = 65536; answer_ms = 2000; settle_ms = 10000; segments = record { slots = 16; limit = 1048576; timeout_ms = 5000 } };
   wanted = wanted;
+  form = Plain;
   frames = false;
 }
 

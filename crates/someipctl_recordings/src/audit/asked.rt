@@ -1,6 +1,7 @@
 //! What an audit goes by.
 use crate::wanted::Wanted;
 use someip_audit::AuditRules;
+use someipctl_io::Form;
 
 /// What an audit goes by.
 #[derive(Clone, Copy)]
@@ -12,6 +13,8 @@ pub struct AuditAsked<'a> {
     /// chooses the findings that are told, and not what is looked at: those of the services, the client, the
     /// addresses and the times that are named. That a book is full is always told.
     pub wanted: Wanted<'a>,
-    /// Whether the number of a packet stands before each line, as in `#12`.
+    /// How the lines are printed.
+    pub form: Form,
+    /// Whether each line tells the number of its packet: a plain one begins with it, as in `#12`.
     pub frames: bool,
 }

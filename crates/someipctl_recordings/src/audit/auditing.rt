@@ -112,7 +112,7 @@ fn tell_due<W: Write>(
         tally.pass()?;
         return Ok(());
     }
-    let kind = put_fell_due(buffer, writer, asked.frames, told)?;
+    let kind = put_fell_due(buffer, writer, asked, told)?;
     tally.tell(kind)?;
     Ok(())
 }
@@ -161,7 +161,7 @@ fn tell_found<W: Write>(
         tally.pass()?;
         return Ok(());
     }
-    let kind = put_found(buffer, writer, asked.frames, time, origin, finding)?;
+    let kind = put_found(buffer, writer, asked, time, origin, finding)?;
     tally.tell(kind)?;
     Ok(())
 }

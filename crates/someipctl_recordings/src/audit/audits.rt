@@ -353,7 +353,7 @@ fn put_end<S: Reassembly + Drop, W: Write>(
         gone.now,
         &mut gone.tally,
     )?;
-    put_summary(buffer, writer, &gone.tally)?;
+    put_summary(buffer, writer, asked.form, &gone.tally)?;
     Ok(ShownRecording {
         outcome: Outcome::of(gone.tally.findings > 0),
         left_out,

@@ -1,6 +1,6 @@
 //! The kinds of findings.
 ghost use Rattle.std.specs.Prelude.{◌≡◌, ◌<◌};
-ghost use Rattle.someipctl_recordings.specs.audit.Kinds.{all_kinds, kind_number, kind_words};
+ghost use Rattle.someipctl_recordings.specs.audit.Kinds.{all_kinds, kind_name, kind_number, kind_words};
 
 /// A kind of findings, as the summary of an audit names it.
 #[derive(Clone, Copy)]
@@ -96,6 +96,32 @@ impl Kind {
             Kind::OfferMoved => "offer moved",
             Kind::Nack => "nack",
             Kind::SubscribeUnanswered => "subscribe unanswered",
+            Kind::Full => "full",
+        }
+    }
+
+    /// Its name in an object, which has `-` between its words: `sd-session`.
+    pub fn name(self) -> &'static str
+        ensures { result.now ≡ kind_name self }
+    {
+        match self {
+            Kind::Malformed => "malformed",
+            Kind::Reboot => "reboot",
+            Kind::SdSession => "sd-session",
+            Kind::Unanswered => "unanswered",
+            Kind::Late => "late",
+            Kind::Unasked => "unasked",
+            Kind::Repeated => "repeated",
+            Kind::KeyReused => "key-reused",
+            Kind::EventRepeated => "event-repeated",
+            Kind::EventGap => "event-gap",
+            Kind::EventUnsubscribed => "event-unsubscribed",
+            Kind::Segments => "segments",
+            Kind::SegmentsMissing => "segments-missing",
+            Kind::OfferExpired => "offer-expired",
+            Kind::OfferMoved => "offer-moved",
+            Kind::Nack => "nack",
+            Kind::SubscribeUnanswered => "subscribe-unanswered",
             Kind::Full => "full",
         }
     }

@@ -1,6 +1,6 @@
 //! Laws of the definitions behind the contracts: the texts of an audit, by example, and that a recording has one. Each
 //! is the contract of a function that does nothing.
-ghost use Rattle.std.specs.Prelude.{◌≡◌, ◌∷◌, [], List, Some, None, codes, true, false};
+ghost use Rattle.std.specs.Prelude.{◌≡◌, ◌∷◌, [], Bool, List, Option, Some, None, codes, true, false};
 ghost use Rattle.std.specs.List.{flat_map};
 ghost use Rattle.sd_wire.specs.declared.SdError.TheVariants as sd;
 ghost use Rattle.someip_wire.specs.declared.WireError.TheVariants as wire;
@@ -13,12 +13,19 @@ ghost use Rattle.audit_sd.specs.declared.sessions.Finding.TheVariants as session
 ghost use Rattle.audit_sd.specs.declared.subscriptions.Finding.TheVariants as subscriptions;
 ghost use Rattle.someip_audit.specs.declared.FellDue.TheVariants as due;
 ghost use Rattle.someip_audit.specs.declared.Finding.TheVariants as findings;
+ghost use Rattle.someip_audit.specs.declared.FellDue.{FellDue};
+ghost use Rattle.someip_audit.specs.declared.Finding.{Finding};
 ghost use Rattle.someip_audit.specs.Audits.{Report, Seen, found};
+ghost use Rattle.someip_audit.specs.FellDues.{deadline};
+ghost use Rattle.someip_tables.specs.declared.hashed.Origin.{Origin};
+ghost use Rattle.someipctl_io.specs.declared.form.Form.TheVariants.{Json, Plain};
+ghost use Rattle.recording.specs.declared.Time.{Time};
 ghost use Rattle.recording_packets.specs.Intake.{ArrivalValue};
 ghost use Rattle.someipctl_recordings.specs.audit.AskedAudits.{AskedAudit};
-ghost use Rattle.someipctl_recordings.specs.audit.AuditText.{due_line, finding_line, is_due_told, is_found_told, plain_line};
-ghost use Rattle.someipctl_recordings.specs.audit.AuditText.{report_lines, summary_text, told_of};
-ghost use Rattle.someipctl_recordings.specs.audit.Said.{said, said_text};
+ghost use Rattle.someipctl_recordings.specs.audit.AuditText.{due_line, finding_line, is_due_told, is_found_told, line_of};
+ghost use Rattle.someipctl_recordings.specs.audit.AuditText.{line_of_report, origin_of_due, report_lines, summary_text};
+ghost use Rattle.someipctl_recordings.specs.audit.AuditText.{time_at, told_of};
+ghost use Rattle.someipctl_recordings.specs.audit.Said.{said, said_of_due, said_text};
 ghost use Rattle.someipctl_recordings.specs.audit.SeenIn.{Tells, looked_of};
 ghost use Rattle.someipctl_recordings.specs.audit.Subjects.{ChoosesNone};
 ghost use Rattle.someipctl_recordings.specs.audit.TextScenes.{before, method_of, of_address, of_client, of_services, whole_service};
@@ -63,22 +70,53 @@ pub fn findings_have_texts()
 /// deadline, with the datagram of the request, the first segment, the newest Offer or the Subscribe. Where it is
 /// asked for, the number of the packet comes first.
 pub fn lines_have_a_time_and_a_datagram()
-    ensures found { finding_line false (Some (record { seconds = 5; nanoseconds = 7 })) origin_1
+    ensures found { finding_line Plain false (Some (record { seconds = 5; nanoseconds = 7 })) origin_1
         (findings.Session sessions.Reboot) ≡ codes "5.000000007 12 192.168.0.1:40000 192.168.0.2:30490 reboot\n" }
-    ensures without_time { finding_line false None origin_1 (findings.Session sessions.Reboot)
+    ensures without_time { finding_line Plain false None origin_1 (findings.Session sessions.Reboot)
         ≡ codes "- 12 192.168.0.1:40000 192.168.0.2:30490 reboot\n" }
-    ensures frame { finding_line true None origin_1 (findings.Session sessions.Reboot)
+    ensures frame { finding_line Plain true None origin_1 (findings.Session sessions.Reboot)
         ≡ codes "#14 - 12 192.168.0.1:40000 192.168.0.2:30490 reboot\n" }
-    ensures unanswered { due_line false (due.Unanswered unanswered_1)
+    ensures unanswered { due_line Plain false (due.Unanswered unanswered_1)
         ≡ codes "4.500000000 8 192.168.0.2:40001 192.168.0.1:30509 unanswered 1234.0421 client 0101 session 0002\n" }
-    ensures frame_of_call { due_line true (due.Unanswered unanswered_1)
+    ensures frame_of_call { due_line Plain true (due.Unanswered unanswered_1)
         ≡ codes "#9 4.500000000 8 192.168.0.2:40001 192.168.0.1:30509 unanswered 1234.0421 client 0101 session 0002\n" }
-    ensures missing { due_line false (due.Missing missing_1)
+    ensures missing { due_line Plain false (due.Missing missing_1)
         ≡ codes "7.000000000 9 192.168.0.1:30509 192.168.0.2:40001 segments missing 1234.0421 client 0101 session 0002\n" }
-    ensures expired { due_line false (due.Expired expired_1)
+    ensures expired { due_line Plain false (due.Expired expired_1)
         ≡ codes "8.003000000 12 192.168.0.1:40000 192.168.0.2:30490 offer expired 1234.0001 major 02\n" }
-    ensures subscribe { due_line false (due.SubscribeUnanswered subscribe_1)
+    ensures subscribe { due_line Plain false (due.SubscribeUnanswered subscribe_1)
         ≡ codes "9.000000000 12 192.168.0.1:40000 192.168.0.2:30490 subscribe unanswered 1234.0001 major 02 group 0005 counter 3\n" }
+{}
+
+/// A plain line is the plain form of what is told: for every finding, and for all that fell due, it has the head
+/// and the words that are said.
+pub fn a_plain_line_says_what_is_told()
+    ensures found { (frames : Bool) (time : Option Time) (origin : Origin) (finding : Finding)
+        → finding_line Plain frames time origin finding ≡ line_of frames time origin (said finding) }
+    ensures fell { (frames : Bool) (told : FellDue) → due_line Plain frames told
+        ≡ line_of frames (Some (time_at (deadline told))) (origin_of_due told) (said_of_due told) }
+{}
+
+/// Lines as objects, by example: with and without a time and the packet, each shape of a finding, and what fell
+/// due.
+pub fn findings_are_objects()
+    ensures found { finding_line Json false (Some (record { seconds = 5; nanoseconds = 7 })) origin_1
+        (findings.Session (sessions.NotNext (record { session = 7; reboot = true }) (record { session = 6; reboot = true })))
+        ≡ codes "{\"kind\":\"sd-session\",\"datagram\":12,\"time\":\"5.000000007\",\"from\":\"192.168.0.1:40000\",\"to\":\"192.168.0.2:30490\",\"session\":\"0007\",\"expected\":\"0006\"}\n" }
+    ensures frame { finding_line Json true None origin_1 (findings.Session sessions.Reboot)
+        ≡ codes "{\"kind\":\"reboot\",\"datagram\":12,\"frame\":14,\"time\":null,\"from\":\"192.168.0.1:40000\",\"to\":\"192.168.0.2:30490\"}\n" }
+    ensures late { finding_line Json false None origin_1 (findings.Call header_1 (calls.Late 300))
+        ≡ codes "{\"kind\":\"late\",\"datagram\":12,\"time\":null,\"from\":\"192.168.0.1:40000\",\"to\":\"192.168.0.2:30490\",\"ms\":300,\"service\":\"1234\",\"method\":\"0421\",\"client\":\"0101\",\"session\":\"0002\"}\n" }
+    ensures malformed { finding_line Json false None origin_1 (findings.Malformed (wire.Truncated 47))
+        ≡ codes "{\"kind\":\"malformed\",\"datagram\":12,\"time\":null,\"from\":\"192.168.0.1:40000\",\"to\":\"192.168.0.2:30490\",\"name\":\"Truncated\",\"at\":47}\n" }
+    ensures gap { finding_line Json false None origin_1 (findings.EventSession flow_1 9 (events.Gap 9 7))
+        ≡ codes "{\"kind\":\"event-gap\",\"datagram\":12,\"time\":null,\"from\":\"192.168.0.1:40000\",\"to\":\"192.168.0.2:30490\",\"service\":\"1234\",\"event\":\"8001\",\"session\":\"0009\",\"expected\":\"0007\"}\n" }
+    ensures full { finding_line Json false None origin_1 (findings.Event event_1 receivers.Full)
+        ≡ codes "{\"kind\":\"full\",\"datagram\":12,\"time\":null,\"from\":\"192.168.0.1:40000\",\"to\":\"192.168.0.2:30490\",\"name\":\"receivers\"}\n" }
+    ensures missing { due_line Json true (due.Missing missing_1)
+        ≡ codes "{\"kind\":\"segments-missing\",\"datagram\":9,\"frame\":11,\"time\":\"7.000000000\",\"from\":\"192.168.0.1:30509\",\"to\":\"192.168.0.2:40001\",\"service\":\"1234\",\"method\":\"0421\",\"client\":\"0101\",\"session\":\"0002\"}\n" }
+    ensures subscribe { due_line Json false (due.SubscribeUnanswered subscribe_1)
+        ≡ codes "{\"kind\":\"subscribe-unanswered\",\"datagram\":12,\"time\":\"9.000000000\",\"from\":\"192.168.0.1:40000\",\"to\":\"192.168.0.2:30490\",\"service\":\"1234\",\"instance\":\"0001\",\"major\":\"02\",\"group\":\"0005\",\"counter\":3}\n" }
 {}
 
 /// Which findings are told, by example: of a service, a method, a client, an address and a time exactly those that
@@ -110,7 +148,7 @@ pub fn findings_are_told_by_what_they_name()
 pub fn lines_are_of_what_is_told()
     ensures { (asked : AskedAudit) (arrivals : List ArrivalValue) (reports : List Report)
         → report_lines asked arrivals reports
-        ≡ flat_map (plain_line asked arrivals) (told_of asked arrivals reports) }
+        ≡ flat_map (line_of_report asked arrivals) (told_of asked arrivals reports) }
 {}
 
 /// Where no service, client, address or time is named every finding is told.
@@ -121,12 +159,16 @@ pub fn all_findings_are_told()
 
 /// The summary, by example: kinds that did not come are not named.
 pub fn a_summary_counts_by_kind()
-    ensures some { summary_text (record { datagrams = 3; messages = 4 })
+    ensures some { summary_text Plain (record { datagrams = 3; messages = 4 })
         (found origin_1 (findings.Session sessions.Full) ∷ found origin_1 (findings.Session sessions.Reboot)
         ∷ found origin_1 findings.EndpointsFull ∷ [])
         ≡ codes "audited 3 datagrams, 4 messages, 3 findings\nreboot 1\nfull 2\n" }
-    ensures none { summary_text (record { datagrams = 3; messages = 4 }) []
+    ensures none { summary_text Plain (record { datagrams = 3; messages = 4 }) []
         ≡ codes "audited 3 datagrams, 4 messages, 0 findings\n" }
+    ensures objects { summary_text Json (record { datagrams = 3; messages = 4 })
+        (found origin_1 (findings.Session (sessions.NotNext (record { session = 7; reboot = true })
+        (record { session = 6; reboot = true }))) ∷ found origin_1 findings.EndpointsFull ∷ [])
+        ≡ codes "{\"kind\":\"audited\",\"datagrams\":3,\"messages\":4,\"findings\":2}\n{\"kind\":\"sd-session\",\"count\":1}\n{\"kind\":\"full\",\"count\":1}\n" }
 {}
 
 /// A recording has one audit: what is told of its datagrams, and how many of them and of their messages are

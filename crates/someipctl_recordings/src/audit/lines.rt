@@ -1,23 +1,22 @@
 //! The lines of findings.
-ghost use Rattle.std.specs.Prelude.{◌≡◌, ◌∷◌, [], OnErr, OnOk, Some, decimal, map};
-ghost use Rattle.std.specs.Net.Text.{socket_v4_text};
-ghost use Rattle.someipctl_io.specs.Sending.{Sends, Stops};
+ghost use Rattle.std.specs.Prelude.{◌≡◌, ◌∷◌, [], if◌then◌else◌, drop, map};
 ghost use Rattle.someip_audit.specs.FellDues.{deadline};
-ghost use Rattle.someip_texts.specs.Words.{word_text};
-ghost use Rattle.someipctl_recordings.specs.audit.AuditText.{Puts, due_line, finding_line, head_text, is_due_told};
+ghost use Rattle.someipctl_io.specs.ToldItems.{datagram_field};
+ghost use Rattle.someipctl_io.specs.ToldViews.{view_field, view_said};
+ghost use Rattle.someipctl_recordings.specs.audit.AuditText.{Puts, due_line, finding_line, is_due_told};
 ghost use Rattle.someipctl_recordings.specs.audit.AuditText.{is_found_told, origin_of_due, time_at};
 ghost use Rattle.someipctl_recordings.specs.audit.AskedAudits.{view_asked};
 ghost use Rattle.someipctl_recordings.specs.audit.Said.{said, said_of_due};
+ghost use Rattle.someipctl_recordings.specs.audit.ToldFindings.{endpoint_fields, frame_field, time_content, time_field};
 
 use crate::audit::asked::AuditAsked;
 use crate::audit::kind::Kind;
-use crate::audit::says::{put_fallen, put_finding};
+use crate::audit::says::{field_of, put_fallen, put_finding};
 use crate::audit::subject::{is_told, subject_of, subject_of_due};
-use crate::heads::{put_frame, put_time};
 use recording::Time;
 use someip_audit::{FellDue, Finding};
 use someip_tables::hashed::Origin;
-use someipctl_io::{Buffer, CannotWrite, Word, put_words};
+use someipctl_io::{Buffer, CannotWrite, Field, LineHead, Said, datagram_field};
 use std::io::Write;
 
 /// Whether a finding of a datagram with this time is told.
@@ -36,16 +35,16 @@ pub(crate) fn is_found_told(
 pub(crate) fn put_found<W: Write>(
     buffer: &mut Buffer,
     writer: &mut W,
-    frames: bool,
+    asked: &AuditAsked<'_>,
     time: Option<Time>,
     origin: &Origin,
     finding: &Finding,
 ) -> Result<Kind, CannotWrite>
-    ensures { Puts (finding_line frames time origin.now finding.now) (said finding.now).kind result
-        (W.contents writer.old) buffer.old (W.contents writer.new) buffer.new }
+    ensures { Puts (finding_line asked.now.form asked.now.frames time origin.now finding.now) (said finding.now).kind
+        result (W.contents writer.old) buffer.old (W.contents writer.new) buffer.new }
 {
-    put_head(buffer, writer, frames, time, origin)?;
-    put_finding(buffer, writer, finding)
+    let fields = head_fields(time, origin);
+    put_finding(buffer, writer, &head_of(asked, &fields), finding)
 }
 
 /// Whether what fell due is told.
@@ -64,46 +63,83 @@ pub(crate) fn is_due_told(asked: &AuditAsked<'_>, told: &FellDue) -> bool
 pub(crate) fn put_fell_due<W: Write>(
     buffer: &mut Buffer,
     writer: &mut W,
-    frames: bool,
+    asked: &AuditAsked<'_>,
     told: &FellDue,
 ) -> Result<Kind, CannotWrite>
-    ensures { Puts (due_line frames told.now) (said_of_due told.now).kind result
+    ensures { Puts (due_line asked.now.form asked.now.frames told.now) (said_of_due told.now).kind result
         (W.contents writer.old) buffer.old (W.contents writer.new) buffer.new }
 {
     let time = time_at(deadline_of(told));
-    put_head(buffer, writer, frames, Some(time), &origin_of_due(told))?;
-    put_fallen(buffer, writer, told)
+    let fields = head_fields(Some(time), &origin_of_due(told));
+    put_fallen(buffer, writer, &head_of(asked, &fields), told)
 }
 
-/// Prints what stands before what is said: the number of the packet, if it is asked for, a time, the number
-/// of the datagram, and its endpoints.
-fn put_head<W: Write>(
-    buffer: &mut Buffer,
-    writer: &mut W,
-    frames: bool,
-    time: Option<Time>,
-    origin: &Origin,
-) -> Result<(), CannotWrite>
-    ensures ok { OnOk result (Sends (W.contents writer.old) buffer.old (W.contents writer.new)
-        buffer.new (head_text frames time origin.now)) }
-    ensures err { OnErr result (Stops (W.contents writer.old) buffer.old (W.contents writer.new)
-        (head_text frames time origin.now)) }
-{
-    put_frame(buffer, writer, frames, origin.numbers.frame as usize)?;
-    put_time(buffer, writer, time)?;
-    put_words(buffer, writer, &origin_words(origin))
+/// What stands before what is said.
+#[derive(Clone, Copy)]
+struct HeadFields {
+    /// The number of the datagram.
+    number: [Field<'static>; 1],
+    /// The number of the packet, which is not told unless it is asked for, and the time.
+    origin: [Field<'static>; 2],
+    /// Where the datagram came from, and where it went to.
+    place: [Field<'static>; 2],
 }
 
-/// The number of a datagram, where it came from and where it went to.
-fn origin_words(origin: &Origin) -> [Word<'static>; 3]
-    ensures { map word_text result ≡ decimal origin.now.numbers.datagram ∷ socket_v4_text origin.now.from
-        ∷ socket_v4_text origin.now.to ∷ [] }
+/// The fields of the head of a line with this time, of a datagram with this origin.
+fn head_fields(time: Option<Time>, origin: &Origin) -> HeadFields
+    ensures number { map view_field result.number ≡ datagram_field origin.now.numbers.datagram ∷ [] }
+    ensures origin { map view_field result.origin ≡ frame_field origin.now.numbers.frame ∷ time_field time ∷ [] }
+    ensures place { map view_field result.place ≡ endpoint_fields origin.now }
 {
-    [
-        Word::Number(origin.numbers.datagram as usize),
-        Word::Endpoint(origin.from),
-        Word::Endpoint(origin.to),
-    ]
+    HeadFields {
+        number: [datagram_field(origin.numbers.datagram as usize)],
+        origin: [
+            field_of("#", "frame", Said::Number(origin.numbers.frame as usize)),
+            field_of("", "time", said_of_time(time)),
+        ],
+        place: [
+            field_of(" ", "from", Said::Endpoint(origin.from)),
+            field_of(" ", "to", Said::Endpoint(origin.to)),
+        ],
+    }
+}
+
+/// A time, or that there is none.
+fn said_of_time(time: Option<Time>) -> Said<'static>
+    ensures { view_said result ≡ time_content time }
+{
+    match time {
+        Some(time) => Said::Time {
+            seconds: time.seconds,
+            nanoseconds: time.nanoseconds,
+        },
+        None => Said::Nothing,
+    }
+}
+
+/// The head of a line with these fields.
+fn head_of<'h>(asked: &AuditAsked<'_>, fields: &'h HeadFields) -> LineHead<'h>
+    ensures form { result.form ≡ asked.now.form }
+    ensures number { result.number.now ≡ fields.now.number }
+    ensures origin { result.origin.now ≡ (if asked.now.frames then fields.now.origin else drop 1 fields.now.origin) }
+    ensures place { result.place.now ≡ fields.now.place }
+{
+    LineHead {
+        form: asked.form,
+        number: &fields.number,
+        origin: origin_fields(asked.frames, &fields.origin),
+        place: &fields.place,
+    }
+}
+
+/// The number of the packet, if it is asked for, and the time.
+fn origin_fields<'h>(frames: bool, fields: &'h [Field<'h>; 2]) -> &'h [Field<'h>]
+    ensures { result.now ≡ (if frames then fields.now else drop 1 fields.now) }
+{
+    if frames {
+        return fields;
+    }
+    &fields[1..]
 }
 
 /// A moment, in milliseconds since 1970, as a time.

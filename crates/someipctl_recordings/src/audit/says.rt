@@ -1,11 +1,15 @@
 //! What the line of a finding says.
-ghost use Rattle.std.specs.Prelude.{◌≡◌, ◌∷◌, codes, decimal, map};
-ghost use Rattle.someip_texts.specs.Words.{word_text};
-ghost use Rattle.someipctl_recordings.specs.audit.AuditText.{Puts};
-ghost use Rattle.someipctl_recordings.specs.audit.Said.{call_words, fault_words, full, header_words, offer_words, said};
-ghost use Rattle.someipctl_recordings.specs.audit.Said.{said_of_call, said_of_due, subscription_words};
-ghost use Rattle.someipctl_recordings.specs.audit.Said.{said_of_event, said_of_offer, said_of_receivers, said_of_session};
-ghost use Rattle.someipctl_recordings.specs.audit.Said.{said_of_subscription, said_text, says};
+ghost use Rattle.std.specs.Prelude.{◌≡◌, ◌∷◌, codes, map};
+ghost use Rattle.someipctl_io.specs.ToldLines.{field, number, text};
+ghost use Rattle.someipctl_io.specs.ToldViews.{view_field, view_head, view_said};
+ghost use Rattle.someipctl_recordings.specs.audit.AuditText.{PutsLine};
+ghost use Rattle.someipctl_recordings.specs.audit.Said.{said, said_of_call, said_of_due, said_of_event, said_of_offer};
+ghost use Rattle.someipctl_recordings.specs.audit.Said.{said_of_receivers, said_of_session, said_of_subscription};
+ghost use Rattle.someipctl_recordings.specs.audit.ToldFindings.{call_fields, due_fields, event_fields, expected_field};
+ghost use Rattle.someipctl_recordings.specs.audit.ToldFindings.{fields_of_call, fields_of_event, fields_of_offer};
+ghost use Rattle.someipctl_recordings.specs.audit.ToldFindings.{fields_of_receivers, fields_of_session, fields_of_subscription};
+ghost use Rattle.someipctl_recordings.specs.audit.ToldFindings.{finding_fields, full_fields, header_fields, malformed_fields};
+ghost use Rattle.someipctl_recordings.specs.audit.ToldFindings.{offer_fields, session_field, subscription_fields};
 ghost use Rattle.someipctl_recordings.specs.declared.audit.kind.Kind.TheVariants as kinds;
 
 use crate::audit::kind::Kind;
@@ -15,73 +19,91 @@ use audit_traffic::calls::CallFinding;
 use audit_traffic::events::EventFlow;
 use someip_audit::{FellDue, Finding};
 use someip_wire::Header;
-use someipctl_io::{Buffer, CannotWrite, Word, put_end, put_words};
+use someipctl_io::{Buffer, CannotWrite, Field, Line, LineHead, Said, put_line};
 use std::io::Write;
 
-/// Prints what is said of a finding, to the end of its line, and tells its kind.
+/// Prints the line of a finding behind this head, and tells its kind.
 pub(crate) fn put_finding<W: Write>(
     buffer: &mut Buffer,
     writer: &mut W,
+    head: &LineHead<'_>,
     finding: &Finding,
 ) -> Result<Kind, CannotWrite>
-    ensures { Puts (said_text (said finding.now)) (said finding.now).kind result
+    ensures { PutsLine head.now.form (view_head head.now) (said finding.now).kind (finding_fields finding.now) result
         (W.contents writer.old) buffer.old (W.contents writer.new) buffer.new }
 {
     match finding {
-        Finding::Malformed(fault) => put_malformed(buffer, writer, fault.name(), fault.place()),
-        Finding::MalformedSd(fault) => put_malformed(buffer, writer, fault.name(), fault.place()),
-        Finding::NoTpHeader(place) => put_malformed(buffer, writer, "NoHeader", *place),
-        Finding::Session(shown) => put_session(buffer, writer, shown),
-        Finding::Offer(key, shown) => put_offer(buffer, writer, key, shown),
-        Finding::Subscription(key, shown) => put_subscription(buffer, writer, key, shown),
+        Finding::Malformed(fault) => put_malformed(
+            buffer,
+            writer,
+            head,
+            fault.name(),
+            fault.place(),
+        ),
+        Finding::MalformedSd(fault) => put_malformed(
+            buffer,
+            writer,
+            head,
+            fault.name(),
+            fault.place(),
+        ),
+        Finding::NoTpHeader(place) => put_malformed(buffer, writer, head, "NoHeader", *place),
+        Finding::Session(shown) => put_session(buffer, writer, head, shown),
+        Finding::Offer(key, shown) => put_offer(buffer, writer, head, key, shown),
+        Finding::Subscription(key, shown) => put_subscription(buffer, writer, head, key, shown),
         Finding::Receiver(key, shown) => {
-            put_receivers(buffer, writer, key.service, key.eventgroup, shown)
+            put_receivers(buffer, writer, head, key.service, key.eventgroup, shown)
         }
-        Finding::Call(header, shown) => put_call(buffer, writer, header, shown),
+        Finding::Call(header, shown) => put_call(buffer, writer, head, header, shown),
         Finding::Event(delivery, shown) => {
-            put_receivers(buffer, writer, delivery.service, delivery.event, shown)
-        }
-        Finding::EventSession(flow, session, shown) => {
-            put_event(buffer, writer, flow, *session, shown)
-        }
-        Finding::Segment(header, refusal) => {
-            put_said(
+            put_receivers(
                 buffer,
                 writer,
-                Kind::Segments,
-                &segment_words(refusal.name(), header),
+                head,
+                delivery.service,
+                delivery.event,
+                shown,
             )
         }
-        Finding::EndpointsFull => put_full(buffer, writer, "endpoints"),
+        Finding::EventSession(flow, session, shown) => {
+            put_event(buffer, writer, head, flow, *session, shown)
+        }
+        Finding::Segment(header, refusal) => {
+            let fields = segment_fields(refusal.name(), header);
+            put_said(buffer, writer, head, Kind::Segments, &fields)
+        }
+        Finding::EndpointsFull => put_full(buffer, writer, head, "endpoints"),
     }
 }
 
-/// Prints what is said of what fell due, to the end of its line, and tells its kind.
+/// Prints the line of what fell due behind this head, and tells its kind.
 pub(crate) fn put_fallen<W: Write>(
     buffer: &mut Buffer,
     writer: &mut W,
+    head: &LineHead<'_>,
     told: &FellDue,
 ) -> Result<Kind, CannotWrite>
-    ensures { Puts (said_text (said_of_due told.now)) (said_of_due told.now).kind result
+    ensures { PutsLine head.now.form (view_head head.now) (said_of_due told.now).kind (due_fields told.now) result
         (W.contents writer.old) buffer.old (W.contents writer.new) buffer.new }
 {
     match told {
         FellDue::Unanswered(told) => {
             let call = &told.call;
-            let words = call_words(call.service, call.method, call.client, call.session);
-            put_said(buffer, writer, Kind::Unanswered, &words)
+            let fields = call_fields(" ", call.service, call.method, call.client, call.session);
+            put_said(buffer, writer, head, Kind::Unanswered, &fields)
         }
         FellDue::Missing(told) => {
             let key = &told.key;
-            let words = call_words(key.service, key.method, key.client, key.session);
-            put_said(buffer, writer, Kind::SegmentsMissing, &words)
+            let fields = call_fields(" ", key.service, key.method, key.client, key.session);
+            put_said(buffer, writer, head, Kind::SegmentsMissing, &fields)
         }
         FellDue::Expired(told) => {
-            put_said(buffer, writer, Kind::OfferExpired, &offer_words(&told.key))
+            let fields = offer_fields(&told.key);
+            put_said(buffer, writer, head, Kind::OfferExpired, &fields)
         }
         FellDue::SubscribeUnanswered(told) => {
-            let words = subscription_words(&told.key);
-            put_said(buffer, writer, Kind::SubscribeUnanswered, &words)
+            let fields = subscription_fields(&told.key);
+            put_said(buffer, writer, head, Kind::SubscribeUnanswered, &fields)
         }
     }
 }
@@ -90,45 +112,54 @@ pub(crate) fn put_fallen<W: Write>(
 fn put_malformed<W: Write>(
     buffer: &mut Buffer,
     writer: &mut W,
+    head: &LineHead<'_>,
     name: &str,
     place: usize,
 ) -> Result<Kind, CannotWrite>
-    ensures { Puts (said_text (says kinds.Malformed (fault_words name.entry.now place)))
-        (says kinds.Malformed (fault_words name.entry.now place)).kind result
+    ensures { PutsLine head.now.form (view_head head.now) kinds.Malformed (malformed_fields name.entry.now place) result
         (W.contents writer.old) buffer.old (W.contents writer.new) buffer.new }
 {
-    let words = [Word::Text(name), Word::Text("at"), Word::Number(place)];
-    put_said(buffer, writer, Kind::Malformed, &words)
+    let fields = [
+        field_of(" ", "name", Said::Text(name)),
+        field_of(" at ", "at", Said::Number(place)),
+    ];
+    put_said(buffer, writer, head, Kind::Malformed, &fields)
 }
 
 /// Prints that a table is full.
-fn put_full<W: Write>(buffer: &mut Buffer, writer: &mut W, name: &str) -> Result<Kind, CannotWrite>
-    ensures { Puts (said_text (full name.entry.now)) (full name.entry.now).kind result
+fn put_full<W: Write>(
+    buffer: &mut Buffer,
+    writer: &mut W,
+    head: &LineHead<'_>,
+    name: &str,
+) -> Result<Kind, CannotWrite>
+    ensures { PutsLine head.now.form (view_head head.now) kinds.Full (full_fields name.entry.now) result
         (W.contents writer.old) buffer.old (W.contents writer.new) buffer.new }
 {
-    put_said(buffer, writer, Kind::Full, &[Word::Text(name)])
+    let fields = [field_of(" ", "name", Said::Text(name))];
+    put_said(buffer, writer, head, Kind::Full, &fields)
 }
 
 /// Prints what a message of Service Discovery shows by its sessions.
 fn put_session<W: Write>(
     buffer: &mut Buffer,
     writer: &mut W,
+    head: &LineHead<'_>,
     shown: &audit_sd::sessions::Finding,
 ) -> Result<Kind, CannotWrite>
-    ensures { Puts (said_text (said_of_session shown.now)) (said_of_session shown.now).kind result
-        (W.contents writer.old) buffer.old (W.contents writer.new) buffer.new }
+    ensures { PutsLine head.now.form (view_head head.now) (said_of_session shown.now).kind (fields_of_session shown.now)
+        result (W.contents writer.old) buffer.old (W.contents writer.new) buffer.new }
 {
     match shown {
-        audit_sd::sessions::Finding::Reboot => put_said(buffer, writer, Kind::Reboot, &[]),
+        audit_sd::sessions::Finding::Reboot => put_said(buffer, writer, head, Kind::Reboot, &[]),
         audit_sd::sessions::Finding::NotNext { stamp, expected } => {
-            let words = [
-                Word::Id(stamp.session),
-                Word::Text("expected"),
-                Word::Id(expected.session),
+            let fields = [
+                field_of(" ", "session", Said::Id(stamp.session)),
+                expected_field(expected.session),
             ];
-            put_said(buffer, writer, Kind::SdSession, &words)
+            put_said(buffer, writer, head, Kind::SdSession, &fields)
         }
-        audit_sd::sessions::Finding::Full => put_full(buffer, writer, "sessions"),
+        audit_sd::sessions::Finding::Full => put_full(buffer, writer, head, "sessions"),
     }
 }
 
@@ -136,17 +167,19 @@ fn put_session<W: Write>(
 fn put_offer<W: Write>(
     buffer: &mut Buffer,
     writer: &mut W,
+    head: &LineHead<'_>,
     key: &OfferKey,
     shown: &audit_sd::offers::Finding,
 ) -> Result<Kind, CannotWrite>
-    ensures { Puts (said_text (said_of_offer key.now shown.now)) (said_of_offer key.now shown.now).kind result
+    ensures { PutsLine head.now.form (view_head head.now) (said_of_offer key.now shown.now).kind
+        (fields_of_offer key.now shown.now) result
         (W.contents writer.old) buffer.old (W.contents writer.new) buffer.new }
 {
     match shown {
         audit_sd::offers::Finding::Moved => {
-            put_said(buffer, writer, Kind::OfferMoved, &offer_words(key))
+            put_said(buffer, writer, head, Kind::OfferMoved, &offer_fields(key))
         }
-        audit_sd::offers::Finding::Full => put_full(buffer, writer, "offers"),
+        audit_sd::offers::Finding::Full => put_full(buffer, writer, head, "offers"),
     }
 }
 
@@ -154,18 +187,19 @@ fn put_offer<W: Write>(
 fn put_subscription<W: Write>(
     buffer: &mut Buffer,
     writer: &mut W,
+    head: &LineHead<'_>,
     key: &SubscriptionKey,
     shown: &audit_sd::subscriptions::Finding,
 ) -> Result<Kind, CannotWrite>
-    ensures { Puts (said_text (said_of_subscription key.now shown.now))
-        (said_of_subscription key.now shown.now).kind result
+    ensures { PutsLine head.now.form (view_head head.now) (said_of_subscription key.now shown.now).kind
+        (fields_of_subscription key.now shown.now) result
         (W.contents writer.old) buffer.old (W.contents writer.new) buffer.new }
 {
     match shown {
         audit_sd::subscriptions::Finding::Nack => {
-            put_said(buffer, writer, Kind::Nack, &subscription_words(key))
+            put_said(buffer, writer, head, Kind::Nack, &subscription_fields(key))
         }
-        audit_sd::subscriptions::Finding::Full => put_full(buffer, writer, "subscriptions"),
+        audit_sd::subscriptions::Finding::Full => put_full(buffer, writer, head, "subscriptions"),
     }
 }
 
@@ -173,24 +207,21 @@ fn put_subscription<W: Write>(
 fn put_receivers<W: Write>(
     buffer: &mut Buffer,
     writer: &mut W,
+    head: &LineHead<'_>,
     service: u16,
     event: u16,
     shown: &audit_sd::receivers::Finding,
 ) -> Result<Kind, CannotWrite>
-    ensures { Puts (said_text (said_of_receivers service event shown.now))
-        (said_of_receivers service event shown.now).kind result
+    ensures { PutsLine head.now.form (view_head head.now) (said_of_receivers service event shown.now).kind
+        (fields_of_receivers service event shown.now) result
         (W.contents writer.old) buffer.old (W.contents writer.new) buffer.new }
 {
     match shown {
         audit_sd::receivers::Finding::Unsubscribed => {
-            put_said(
-                buffer,
-                writer,
-                Kind::EventUnsubscribed,
-                &[Word::Ids(service, event)],
-            )
+            let fields = event_fields(service, event);
+            put_said(buffer, writer, head, Kind::EventUnsubscribed, &fields)
         }
-        audit_sd::receivers::Finding::Full => put_full(buffer, writer, "receivers"),
+        audit_sd::receivers::Finding::Full => put_full(buffer, writer, head, "receivers"),
     }
 }
 
@@ -198,23 +229,52 @@ fn put_receivers<W: Write>(
 fn put_call<W: Write>(
     buffer: &mut Buffer,
     writer: &mut W,
+    head: &LineHead<'_>,
     header: &Header,
     shown: &CallFinding,
 ) -> Result<Kind, CannotWrite>
-    ensures { Puts (said_text (said_of_call header.now shown.now))
-        (said_of_call header.now shown.now).kind result
+    ensures { PutsLine head.now.form (view_head head.now) (said_of_call header.now shown.now).kind
+        (fields_of_call header.now shown.now) result
         (W.contents writer.old) buffer.old (W.contents writer.new) buffer.new }
 {
     match shown {
         CallFinding::KeyReused => {
-            put_said(buffer, writer, Kind::KeyReused, &header_words(header))
+            put_said(
+                buffer,
+                writer,
+                head,
+                Kind::KeyReused,
+                &header_fields(" ", header),
+            )
         }
         CallFinding::Late(millis) => {
-            put_said(buffer, writer, Kind::Late, &late_words(*millis, header))
+            put_said(
+                buffer,
+                writer,
+                head,
+                Kind::Late,
+                &late_fields(*millis, header),
+            )
         }
-        CallFinding::Repeated => put_said(buffer, writer, Kind::Repeated, &header_words(header)),
-        CallFinding::Unasked => put_said(buffer, writer, Kind::Unasked, &header_words(header)),
-        CallFinding::Full => put_full(buffer, writer, "calls"),
+        CallFinding::Repeated => {
+            put_said(
+                buffer,
+                writer,
+                head,
+                Kind::Repeated,
+                &header_fields(" ", header),
+            )
+        }
+        CallFinding::Unasked => {
+            put_said(
+                buffer,
+                writer,
+                head,
+                Kind::Unasked,
+                &header_fields(" ", header),
+            )
+        }
+        CallFinding::Full => put_full(buffer, writer, head, "calls"),
     }
 }
 
@@ -222,123 +282,156 @@ fn put_call<W: Write>(
 fn put_event<W: Write>(
     buffer: &mut Buffer,
     writer: &mut W,
+    head: &LineHead<'_>,
     flow: &EventFlow,
     session: u16,
     shown: &audit_traffic::events::Finding,
 ) -> Result<Kind, CannotWrite>
-    ensures { Puts (said_text (said_of_event flow.now session shown.now))
-        (said_of_event flow.now session shown.now).kind result
+    ensures { PutsLine head.now.form (view_head head.now) (said_of_event flow.now session shown.now).kind
+        (fields_of_event flow.now session shown.now) result
         (W.contents writer.old) buffer.old (W.contents writer.new) buffer.new }
 {
+    let [service, event] = event_fields(flow.service, flow.event);
     match shown {
         audit_traffic::events::Finding::Repeated => {
-            let words = [
-                Word::Ids(flow.service, flow.event),
-                Word::Text("session"),
-                Word::Id(session),
-            ];
-            put_said(buffer, writer, Kind::EventRepeated, &words)
+            let fields = [service, event, session_field(session)];
+            put_said(buffer, writer, head, Kind::EventRepeated, &fields)
         }
         audit_traffic::events::Finding::Gap { session, expected } => {
-            let words = [
-                Word::Ids(flow.service, flow.event),
-                Word::Text("session"),
-                Word::Id(*session),
-                Word::Text("expected"),
-                Word::Id(*expected),
+            let fields = [
+                service,
+                event,
+                session_field(*session),
+                expected_field(*expected),
             ];
-            put_said(buffer, writer, Kind::EventGap, &words)
+            put_said(buffer, writer, head, Kind::EventGap, &fields)
         }
-        audit_traffic::events::Finding::Full => put_full(buffer, writer, "events"),
+        audit_traffic::events::Finding::Full => put_full(buffer, writer, head, "events"),
     }
 }
 
-/// Prints the words of a kind and those after them, to the end of the line, and tells the kind.
+/// Prints the line of a kind with these fields, and tells the kind.
 fn put_said<W: Write>(
     buffer: &mut Buffer,
     writer: &mut W,
+    head: &LineHead<'_>,
     kind: Kind,
-    words: &[Word<'_>],
+    fields: &[Field<'_>],
 ) -> Result<Kind, CannotWrite>
-    ensures { Puts (said_text (says kind (map word_text words.now))) kind result
+    ensures { PutsLine head.now.form (view_head head.now) kind (map view_field fields.now) result
         (W.contents writer.old) buffer.old (W.contents writer.new) buffer.new }
 {
-    put_words(buffer, writer, &[Word::Text(kind.words())])?;
-    put_end(buffer, writer, words)?;
+    let line = Line {
+        kind: kind.name(),
+        word: Some(kind.words()),
+        fields,
+    };
+    put_line(buffer, writer, head, &line)?;
     Ok(kind)
 }
 
-/// The Message ID and the Request ID of a message with this header.
-fn header_words(header: &Header) -> [Word<'static>; 5]
-    ensures { map word_text result ≡ header_words header.now }
+/// A field.
+pub(crate) fn field_of<'f>(lead: &'f str, key: &'f str, said: Said<'f>) -> Field<'f>
+    ensures { view_field result ≡ field lead.now key.now (view_said said.entry) }
 {
-    call_words(header.service, header.method, header.client, header.session)
+    Field { lead, key, said }
 }
 
-/// A Message ID and a Request ID.
-fn call_words(service: u16, method: u16, client: u16, session: u16) -> [Word<'static>; 5]
-    ensures { map word_text result ≡ call_words service method client session }
+/// The Message ID and the Request ID of a message with this header, the first behind this text.
+fn header_fields(lead: &'static str, header: &Header) -> [Field<'static>; 4]
+    ensures { map view_field result ≡ header_fields lead.now header.now }
+{
+    call_fields(
+        lead,
+        header.service,
+        header.method,
+        header.client,
+        header.session,
+    )
+}
+
+/// A Message ID and a Request ID, the first behind this text.
+fn call_fields(
+    lead: &'static str,
+    service: u16,
+    method: u16,
+    client: u16,
+    session: u16,
+) -> [Field<'static>; 4]
+    ensures { map view_field result ≡ call_fields lead.now service method client session }
 {
     [
-        Word::Ids(service, method),
-        Word::Text("client"),
-        Word::Id(client),
-        Word::Text("session"),
-        Word::Id(session),
+        field_of(lead, "service", Said::Id(service)),
+        field_of(".", "method", Said::Id(method)),
+        field_of(" client ", "client", Said::Id(client)),
+        session_field(session),
     ]
 }
 
 /// How many milliseconds late an answer with this header came.
-fn late_words(millis: u64, header: &Header) -> [Word<'static>; 7]
-    ensures { map word_text result ≡ decimal millis ∷ codes "ms" ∷ header_words header.now }
+fn late_fields(millis: u64, header: &Header) -> [Field<'static>; 5]
+    ensures { map view_field result
+        ≡ field (codes " ") (codes "ms") (number millis) ∷ header_fields (codes " ms ") header.now }
 {
-    [
-        Word::Number(millis as usize),
-        Word::Text("ms"),
-        Word::Ids(header.service, header.method),
-        Word::Text("client"),
-        Word::Id(header.client),
-        Word::Text("session"),
-        Word::Id(header.session),
-    ]
+    let [service, method, client, session] = header_fields(" ms ", header);
+    let late = field_of(" ", "ms", Said::Number(millis as usize));
+    [late, service, method, client, session]
 }
 
 /// Why a segment with this header is refused.
-fn segment_words<'n>(name: &'n str, header: &Header) -> [Word<'n>; 6]
-    ensures { map word_text result ≡ name.entry.now ∷ header_words header.now }
+fn segment_fields<'n>(name: &'n str, header: &Header) -> [Field<'n>; 5]
+    ensures { map view_field result
+        ≡ field (codes " ") (codes "name") (text name.entry.now) ∷ header_fields (codes " ") header.now }
 {
-    [
-        Word::Text(name),
-        Word::Ids(header.service, header.method),
-        Word::Text("client"),
-        Word::Id(header.client),
-        Word::Text("session"),
-        Word::Id(header.session),
-    ]
+    let [service, method, client, session] = header_fields(" ", header);
+    let refusal = field_of(" ", "name", Said::Text(name));
+    [refusal, service, method, client, session]
 }
 
 /// An offer.
-fn offer_words(key: &OfferKey) -> [Word<'static>; 3]
-    ensures { map word_text result ≡ offer_words key.now }
+fn offer_fields(key: &OfferKey) -> [Field<'static>; 3]
+    ensures { map view_field result ≡ offer_fields key.now }
 {
     [
-        Word::Ids(key.service, key.instance),
-        Word::Text("major"),
-        Word::Byte(key.major),
+        field_of(" ", "service", Said::Id(key.service)),
+        field_of(".", "instance", Said::Id(key.instance)),
+        field_of(" major ", "major", Said::Byte(key.major)),
     ]
 }
 
 /// A subscription.
-fn subscription_words(key: &SubscriptionKey) -> [Word<'static>; 7]
-    ensures { map word_text result ≡ subscription_words key.now }
+fn subscription_fields(key: &SubscriptionKey) -> [Field<'static>; 5]
+    ensures { map view_field result ≡ subscription_fields key.now }
 {
     [
-        Word::Ids(key.service, key.instance),
-        Word::Text("major"),
-        Word::Byte(key.major),
-        Word::Text("group"),
-        Word::Id(key.eventgroup),
-        Word::Text("counter"),
-        Word::Number(key.counter as usize),
+        field_of(" ", "service", Said::Id(key.service)),
+        field_of(".", "instance", Said::Id(key.instance)),
+        field_of(" major ", "major", Said::Byte(key.major)),
+        field_of(" group ", "group", Said::Id(key.eventgroup)),
+        field_of(" counter ", "counter", Said::Number(key.counter as usize)),
     ]
+}
+
+/// An event of a service.
+fn event_fields(service: u16, event: u16) -> [Field<'static>; 2]
+    ensures { map view_field result ≡ event_fields service event }
+{
+    [
+        field_of(" ", "service", Said::Id(service)),
+        field_of(".", "event", Said::Id(event)),
+    ]
+}
+
+/// The session that came.
+fn session_field(session: u16) -> Field<'static>
+    ensures { view_field result ≡ session_field session }
+{
+    field_of(" session ", "session", Said::Id(session))
+}
+
+/// The session that was expected.
+fn expected_field(expected: u16) -> Field<'static>
+    ensures { view_field result ≡ expected_field expected }
+{
+    field_of(" expected ", "expected", Said::Id(expected))
 }

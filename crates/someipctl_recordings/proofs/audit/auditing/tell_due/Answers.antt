@@ -12,7 +12,7 @@ use Rattle.someipctl_recordings.proofs.audit.auditing.tell_due.Goals as goal
 pub returns-in_err-pass-clause-err : goal.returns-in_err-pass-clause-err
 returns-in_err-pass-clause-err g c =
     let passed = sym c.is_due_told.ensures ∙ c.if-not-is_due_told.true in
-    OnErr-any c.from_residual.result (stops_passed (is_due_told (view_asked c.args.asked.now) c.args.told.now) (due_line c.args.asked.now.frames c.args.told.now) passed (g.W.Write.contents c.args.writer.now) c.args.buffer.now)
+    OnErr-any c.from_residual.result (stops_passed (is_due_told (view_asked c.args.asked.now) c.args.told.now) (due_line c.args.asked.now.form c.args.asked.now.frames c.args.told.now) passed (g.W.Write.contents c.args.writer.now) c.args.buffer.now)
 
 pub returns-clause-counts : goal.returns-clause-counts
 returns-clause-counts g c =

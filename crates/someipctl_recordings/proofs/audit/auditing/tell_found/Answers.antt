@@ -13,7 +13,7 @@ pub returns-in_err-pass-clause-err : goal.returns-in_err-pass-clause-err
 returns-in_err-pass-clause-err g c =
     let passed = sym c.is_found_told.ensures ∙ c.if-not-is_found_told.true in
     OnErr-any c.from_residual.result
-    (stops_passed (is_found_told (view_asked c.args.asked.now) c.args.time c.args.origin.now c.args.finding.now) (finding_line c.args.asked.now.frames c.args.time c.args.origin.now c.args.finding.now) passed (g.W.Write.contents c.args.writer.now) c.args.buffer.now)
+    (stops_passed (is_found_told (view_asked c.args.asked.now) c.args.time c.args.origin.now c.args.finding.now) (finding_line c.args.asked.now.form c.args.asked.now.frames c.args.time c.args.origin.now c.args.finding.now) passed (g.W.Write.contents c.args.writer.now) c.args.buffer.now)
 
 pub returns-clause-counts : goal.returns-clause-counts
 returns-clause-counts g c =

@@ -1,9 +1,10 @@
 use Rattle.std.proofs.Common.{refl}
 use Rattle.std.specs.Fmt.{digits}
 use Rattle.hex.specs.Hex.{encode_with}
+use Rattle.json.specs.Print.{escape_byte}
 use Rattle.someipctl_recordings.specs.audit.Kinds.{all_kinds}
 use Rattle.someipctl_recordings.proofs.audit.laws.a_summary_counts_by_kind.Goals as goal
 
 pub returns : goal.returns
-unfolding digits encode_with all_kinds
-returns c = record { some = refl; none = refl }
+unfolding digits encode_with escape_byte all_kinds
+returns c = record { some = refl; none = refl; objects = refl }

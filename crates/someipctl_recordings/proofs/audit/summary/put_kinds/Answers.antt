@@ -8,9 +8,9 @@ pub returns-in_err-put_kind-clause-err : goal.returns-in_err-put_kind-clause-err
 returns-in_err-put_kind-clause-err g c =
     let err = rw c.number.ensures.number at c.in_err-put_kind.ensures.err in
     OnErr-any c.from_residual.result
-    (IsSending-stop _ _ _ _ _ _ _ _ _ c.loop-kind.invariant (ap (tally_kinds c.args.numbers.now) (drop_more c.args.kinds.now c.loop-kind.kind-index _ c.loop-kind-test.true)) err)
+    (IsSending-stop _ _ _ _ _ _ _ _ _ c.loop-kind.invariant (ap (tally_kinds c.args.form c.args.numbers.now) (drop_more c.args.kinds.now c.loop-kind.kind-index _ c.loop-kind-test.true)) err)
 
 pub loop-kind-preserved : goal.loop-kind-preserved
 loop-kind-preserved g c =
     let ok = rw c.number.ensures.number at c.in_ok-put_kind.ensures.ok in
-    IsSending-more _ _ _ _ _ _ _ _ _ _ c.loop-kind.invariant (ap (tally_kinds c.args.numbers.now) (drop_more c.args.kinds.now c.loop-kind.kind-index _ c.loop-kind-test.true)) ok
+    IsSending-more _ _ _ _ _ _ _ _ _ _ c.loop-kind.invariant (ap (tally_kinds c.args.form c.args.numbers.now) (drop_more c.args.kinds.now c.loop-kind.kind-index _ c.loop-kind-test.true)) ok

@@ -1,0 +1,9 @@
+use Rattle.std.proofs.Common.{refl}
+use Rattle.std.specs.Fmt.{digits}
+use Rattle.hex.specs.Hex.{encode_with}
+use Rattle.json.specs.Print.{escape_byte}
+use Rattle.someipctl_recordings.proofs.audit.laws.findings_are_objects.Goals as goal
+
+pub returns : goal.returns
+unfolding digits encode_with escape_byte
+returns c = record { found = refl; frame = refl; late = refl; malformed = refl; gap = refl; full = refl; missing = refl; subscribe = refl }
