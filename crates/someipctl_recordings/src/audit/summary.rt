@@ -8,8 +8,7 @@ ghost use Rattle.someipctl_io.specs.ToldLines.{line_text};
 ghost use Rattle.someipctl_io.specs.ToldViews.{view_field};
 ghost use Rattle.someipctl_io.specs.declared.form.Form.TheVariants.{Json, Plain};
 ghost use Rattle.someipctl_show.specs.VerdictForms.{no_head, wordless};
-ghost use Rattle.someipctl_recordings.specs.audit.AuditText.{Looked, audited_line, audited_told, counted_line, kind_line};
-ghost use Rattle.someipctl_recordings.specs.audit.AuditText.{summary_text};
+ghost use Rattle.someipctl_recordings.specs.audit.AuditText.{Looked, audited_told, counted_line, kind_line, summary_text};
 ghost use Rattle.someipctl_recordings.specs.audit.Kinds.{all_kinds, kind_words};
 ghost use Rattle.someipctl_recordings.specs.audit.Tallies.{Counts, looked_in, tally_kinds, tally_line};
 
