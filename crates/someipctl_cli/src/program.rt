@@ -324,9 +324,8 @@ fn audit_wanted<'p, R: Files + Print + Eprint + Input + AllocGlobal>(
     let asked = AuditAsked {
         rules,
         wanted,
-        form: Form::Plain,
-        frames: options.frames,
         form: line_form(options.json),
+        frames: options.frames,
     };
     let mut sources = open_sources(rt, paths)?;
     let mut writer = io::writer(rt);

@@ -396,9 +396,7 @@ fn put_whole_in<W: Write>(
 {
     match shown.form {
         Form::Plain => put_whole(buffer, writer, shown.k, message, values),
-        Form::Json => {
-            put_whole_objects(buffer, writer, shown.origin, shown.k, &message, values)
-        }
+        Form::Json => { put_whole_objects(buffer, writer, shown.origin, shown.k, &message, values) }
     }
 }
 

@@ -174,10 +174,10 @@ pub(crate) fn origin_fields(arrival: &Arrival<'_>) -> [Field<'static>; 4]
 {
     let datagram = &arrival.datagram;
     [
-        told("#", "frame", Said::Number(arrival.frame)),
-        told("", "time", said_of_time(datagram.time)),
-        told("", "from", Said::Endpoint(socket_of(datagram.from))),
-        told("", "to", Said::Endpoint(socket_of(datagram.to))),
+        field_of("#", "frame", Said::Number(arrival.frame)),
+        field_of("", "time", said_of_time(datagram.time)),
+        field_of("", "from", Said::Endpoint(socket_of(datagram.from))),
+        field_of("", "to", Said::Endpoint(socket_of(datagram.to))),
     ]
 }
 
@@ -194,14 +194,14 @@ pub(crate) fn asked_fields<'f>(heads: Heads, fields: &'f [Field<'f>; 4]) -> &'f 
 }
 
 /// A field.
-fn told(lead: &'static str, key: &'static str, said: Said<'static>) -> Field<'static>
+pub(crate) fn field_of<'f>(lead: &'f str, key: &'f str, said: Said<'f>) -> Field<'f>
     ensures { view_field result ≡ field lead.now key.now (view_said said.entry) }
 {
     Field { lead, key, said }
 }
 
 /// A time, which may not be there.
-fn said_of_time(time: Option<Time>) -> Said<'static>
+pub(crate) fn said_of_time(time: Option<Time>) -> Said<'static>
     ensures { view_said result ≡ said_of_time time }
 {
     match time {

@@ -27,7 +27,8 @@ use Rattle.someipctl_recordings.specs.RecordedText.{time_text}
 use Rattle.someipctl_recordings.specs.audit.AuditText.{due_line, finding_line, head_text, line_of, origin_of_due, time_at}
 use Rattle.someipctl_recordings.specs.audit.Kinds.{kind_name, kind_words}
 use Rattle.someipctl_recordings.specs.audit.Said.{Said, call_words, fault_words, offer_words, said, said_of_due, subscription_words}
-use Rattle.someipctl_recordings.specs.audit.ToldFindings.{audit_head, call_fields, due_fields, finding_fields, kind_told, malformed_fields, offer_fields, subscription_fields, time_content}
+use Rattle.someipctl_recordings.specs.audit.ToldFindings.{audit_head, call_fields, due_fields, finding_fields, kind_told, malformed_fields, offer_fields, subscription_fields}
+use Rattle.someipctl_recordings.specs.Origins.{said_of_time}
 
 -- ---- the head
 
@@ -41,17 +42,17 @@ frameless-shape : (space t k from to word : List ℕ)
     ≡ (t ++ ((space ++ k) ++ ((space ++ from) ++ ((space ++ to) ++ [])))) ++ (space ++ word)
 frameless-shape space t k from to word = simp (append_assoc, append-nil)
 
-time-plain : (time : Option Time) → content_text (time_content time) ≡ time_text time
+time-plain : (time : Option Time) → content_text (said_of_time time) ≡ time_text time
 time-plain None = refl
 time-plain (Some t) = refl
 
 begin-plain : (frames : Bool) (time : Option Time) (origin : Origin) (name word : List ℕ)
     → begin_text Plain (audit_head frames time origin) name (Some word) ≡ head_text frames time origin ++ (codes " " ++ word)
 begin-plain true time origin name word =
-    frame-shape (codes "#") (decimal origin.numbers.frame) (codes " ") (content_text (time_content time)) (decimal origin.numbers.datagram) (socket_v4_text origin.from) (socket_v4_text origin.to) word
+    frame-shape (codes "#") (decimal origin.numbers.frame) (codes " ") (content_text (said_of_time time)) (decimal origin.numbers.datagram) (socket_v4_text origin.from) (socket_v4_text origin.to) word
     ∙ ap (λ t. (codes "#" ++ decimal origin.numbers.frame ++ codes " ") ++ (t ++ spaced (decimal origin.numbers.datagram ∷ socket_v4_text origin.from ∷ socket_v4_text origin.to ∷ [])) ++ (codes " " ++ word)) (time-plain time)
 begin-plain false time origin name word =
-    frameless-shape (codes " ") (content_text (time_content time)) (decimal origin.numbers.datagram) (socket_v4_text origin.from) (socket_v4_text origin.to) word
+    frameless-shape (codes " ") (content_text (said_of_time time)) (decimal origin.numbers.datagram) (socket_v4_text origin.from) (socket_v4_text origin.to) word
     ∙ ap (λ t. (t ++ spaced (decimal origin.numbers.datagram ∷ socket_v4_text origin.from ∷ socket_v4_text origin.to ∷ [])) ++ (codes " " ++ word)) (time-plain time)
 
 -- ---- the words

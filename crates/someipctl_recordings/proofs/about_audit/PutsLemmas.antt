@@ -12,7 +12,8 @@ use Rattle.someipctl_io.specs.ToldItems.{datagram_field}
 use Rattle.someipctl_io.specs.ToldViews.{view_field, view_head}
 use Rattle.someipctl_recordings.specs.declared.audit.kind.Kind.{Kind}
 use Rattle.someipctl_recordings.specs.audit.AuditText.{Puts}
-use Rattle.someipctl_recordings.specs.audit.ToldFindings.{audit_head, endpoint_fields, frame_field, origin_fields, time_field}
+use Rattle.someipctl_recordings.specs.audit.ToldFindings.{audit_head, endpoint_fields, origin_fields, time_field}
+use Rattle.someipctl_recordings.specs.Origins.{frame_field}
 
 -- printing it stopped
 pub puts_err : (text : List ℕ) (kind : Kind) (r : Result Kind CannotWrite) (a : Option (List ℕ)) (held : List ℕ) (b : Option (List ℕ)) (waits : List ℕ) → IsErr r → Stops a held b text → Puts text kind r a held b waits

@@ -1,5 +1,5 @@
 -- What the lines of an audit tell, field by field.
-use Rattle.std.specs.Prelude.{ℕ, Bool, true, false, List, [], ◌∷◌, ◌++◌, codes, Option, Some, None}
+use Rattle.std.specs.Prelude.{ℕ, Bool, true, false, List, [], ◌∷◌, ◌++◌, codes, Option, Some}
 use Rattle.recording.specs.declared.Time.{Time}
 use Rattle.someip_tables.specs.declared.hashed.Origin.{Origin}
 use Rattle.someip_wire.specs.declared.Header.{Header}
@@ -25,25 +25,18 @@ use Rattle.someip_audit.specs.declared.Finding.{Finding}
 use Rattle.someip_audit.specs.declared.Finding.TheVariants as findings
 use Rattle.someip_audit.specs.declared.FellDue.{FellDue}
 use Rattle.someip_audit.specs.declared.FellDue.TheVariants as due
-use Rattle.someipctl_io.specs.ToldLines.{Content, text, number, id, byte, nothing, endpoint, time as told_time, ToldField, ToldHead, ToldLine, field}
+use Rattle.someipctl_io.specs.ToldLines.{text, number, id, byte, endpoint, ToldField, ToldHead, ToldLine, field}
 use Rattle.someipctl_io.specs.ToldItems.{datagram_field}
+use Rattle.someipctl_recordings.specs.Origins.{frame_field, said_of_time}
 use Rattle.someipctl_recordings.specs.declared.audit.kind.Kind.{Kind}
 use Rattle.someipctl_recordings.specs.audit.Kinds.{kind_name, kind_words}
 use Rattle.someipctl_recordings.specs.audit.Said.{said, said_of_due}
 
 -- ---- the head
 
--- the number of the packet
-abbrev pub frame_field : ℕ → ToldField
-frame_field n = field (codes "#") (codes "frame") (number n)
-
--- a time, or that there is none
-abbrev pub time_content : Option Time → Content
-time_content None = nothing
-time_content (Some t) = told_time t.seconds t.nanoseconds
-
+-- the time, or that there is none
 abbrev pub time_field : Option Time → ToldField
-time_field time = field [] (codes "time") (time_content time)
+time_field time = field [] (codes "time") (said_of_time time)
 
 -- where a datagram came from, and where it went to
 abbrev pub endpoint_fields : Origin → List ToldField

@@ -2,17 +2,19 @@
 ghost use Rattle.std.specs.Prelude.{◌≡◌, ◌∷◌, [], if◌then◌else◌, drop, map};
 ghost use Rattle.someip_audit.specs.FellDues.{deadline};
 ghost use Rattle.someipctl_io.specs.ToldItems.{datagram_field};
-ghost use Rattle.someipctl_io.specs.ToldViews.{view_field, view_said};
+ghost use Rattle.someipctl_io.specs.ToldViews.{view_field};
 ghost use Rattle.someipctl_recordings.specs.audit.AuditText.{Puts, due_line, finding_line, is_due_told};
 ghost use Rattle.someipctl_recordings.specs.audit.AuditText.{is_found_told, origin_of_due, time_at};
 ghost use Rattle.someipctl_recordings.specs.audit.AskedAudits.{view_asked};
 ghost use Rattle.someipctl_recordings.specs.audit.Said.{said, said_of_due};
-ghost use Rattle.someipctl_recordings.specs.audit.ToldFindings.{endpoint_fields, frame_field, time_content, time_field};
+ghost use Rattle.someipctl_recordings.specs.Origins.{frame_field};
+ghost use Rattle.someipctl_recordings.specs.audit.ToldFindings.{endpoint_fields, time_field};
 
 use crate::audit::asked::AuditAsked;
 use crate::audit::kind::Kind;
-use crate::audit::says::{field_of, put_fallen, put_finding};
+use crate::audit::says::{put_fallen, put_finding};
 use crate::audit::subject::{is_told, subject_of, subject_of_due};
+use crate::heads::{field_of, said_of_time};
 use recording::Time;
 use someip_audit::{FellDue, Finding};
 use someip_tables::hashed::Origin;
@@ -101,19 +103,6 @@ fn head_fields(time: Option<Time>, origin: &Origin) -> HeadFields
             field_of(" ", "from", Said::Endpoint(origin.from)),
             field_of(" ", "to", Said::Endpoint(origin.to)),
         ],
-    }
-}
-
-/// A time, or that there is none.
-fn said_of_time(time: Option<Time>) -> Said<'static>
-    ensures { view_said result ≡ time_content time }
-{
-    match time {
-        Some(time) => Said::Time {
-            seconds: time.seconds,
-            nanoseconds: time.nanoseconds,
-        },
-        None => Said::Nothing,
     }
 }
 

@@ -13,6 +13,7 @@ ghost use Rattle.someipctl_recordings.specs.audit.ToldFindings.{offer_fields, se
 ghost use Rattle.someipctl_recordings.specs.declared.audit.kind.Kind.TheVariants as kinds;
 
 use crate::audit::kind::Kind;
+use crate::heads::field_of;
 use audit_sd::offers::OfferKey;
 use audit_sd::subscriptions::SubscriptionKey;
 use audit_traffic::calls::CallFinding;
@@ -328,13 +329,6 @@ fn put_said<W: Write>(
     };
     put_line(buffer, writer, head, &line)?;
     Ok(kind)
-}
-
-/// A field.
-pub(crate) fn field_of<'f>(lead: &'f str, key: &'f str, said: Said<'f>) -> Field<'f>
-    ensures { view_field result ≡ field lead.now key.now (view_said said.entry) }
-{
-    Field { lead, key, said }
 }
 
 /// The Message ID and the Request ID of a message with this header, the first behind this text.

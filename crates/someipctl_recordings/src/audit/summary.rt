@@ -13,8 +13,8 @@ ghost use Rattle.someipctl_recordings.specs.audit.Kinds.{all_kinds, kind_words};
 ghost use Rattle.someipctl_recordings.specs.audit.Tallies.{Counts, looked_in, tally_kinds, tally_line};
 
 use crate::audit::kind::{KIND_COUNT, Kind, kinds};
-use crate::audit::says::field_of;
 use crate::audit::tally::Tally;
+use crate::heads::field_of;
 use someipctl_io::{
     Buffer, CannotWrite, Field, Form, Line, LineHead, Part, Said, put_line, put_parts,
 };

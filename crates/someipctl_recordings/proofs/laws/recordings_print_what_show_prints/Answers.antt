@@ -94,10 +94,11 @@ plain_recorded asked p a text plain none =
     let heads : heads_in asked.form asked.heads ≡ no_heads = ap (heads_in asked.form) plain ∙ no_heads_in asked.form in
     let origin : origin_in asked.form asked.heads a ≡ [] = ap (λ h. origin_in asked.form h a) plain ∙ no_origin asked.form a in
     let own = plain_headed a (IsSceneText (bare asked.form asked.types k now a.datagram) None) text in
-    let lines = plain_text asked.form asked.types k now a.datagram a.datagram.payload text in
-    (λ is. lines.0 (own.0 (subst (λ h. Of h [] None) heads (subst (λ o. Of (heads_in asked.form asked.heads) o None) origin (subst (Of (heads_in asked.form asked.heads) (origin_in asked.form asked.heads a)) none is)))),
-    λ is. subst (Of (heads_in asked.form asked.heads) (origin_in asked.form asked.heads a)) (sym none)
-    (subst (λ o. Of (heads_in asked.form asked.heads) o None) (sym origin) (subst (λ h. Of h [] None) (sym heads) (own.1 (lines.1 is)))))
+    let lines = plain_text asked.form asked.types k now a.datagram a.datagram.payload text in (
+      λ is. lines.0 (own.0 (subst (λ h. Of h [] None) heads (subst (λ o. Of (heads_in asked.form asked.heads) o None) origin (subst (Of (heads_in asked.form asked.heads) (origin_in asked.form asked.heads a)) none is)))),
+      λ is. subst (Of (heads_in asked.form asked.heads) (origin_in asked.form asked.heads a)) (sym none)
+          (subst (λ o. Of (heads_in asked.form asked.heads) o None) (sym origin) (subst (λ h. Of h [] None) (sym heads) (own.1 (lines.1 is)))),
+    )
 
 same_text : (asked : AskedValue) (p : Progress) (ds : List ArrivalValue) (text : List ℕ) → asked.heads ≡ no_heads → p.store ≡ None
     → (AreRecorded asked p ds text ↔ AreTextsIn asked.form asked.types (p.datagrams + 1) (map (λ (a : ArrivalValue). a.datagram.payload) ds) text)
