@@ -10,6 +10,8 @@ use Rattle.std.specs.Io.KnownBytes.{Appends}
 use Rattle.someipctl_io.specs.declared.fault.Fault.{Fault}
 use Rattle.someipctl_io.specs.declared.fault.Fault.TheVariants.{Refused, CannotRead, CannotWrite, OutOfMemory}
 use Rattle.someipctl_run.specs.Commands.{RanInput, RanInputInForm, RefusesInputRun, RefusesInputRunInForm}
+use Rattle.someipctl_io.specs.declared.form.Form.{Form as LineForm}
+use Rattle.someipctl_run.specs.ToldTraces.{trace_line, trace_lines}
 use Rattle.someipctl_run.specs.Traces.{formed_trace, line_text, marked_line, marked_lines, numbered_lines, number_after, reuse_line, trace_text}
 use Rattle.someipctl_run.specs.declared.error.ScheduleRefusal.{ScheduleRefusal}
 use Rattle.someipctl_run.specs.declared.form.TraceForm.TheVariants.{Plain}
@@ -20,6 +22,13 @@ pub next_line : (step_lines : Option (List ℕ)) (nodes : List SetupNode) (numbe
     ≡ marked_line step_lines nodes number line ++ marked_lines step_lines nodes (number_after number line) (drop (i + 1) lines)
 next_line step_lines nodes number lines i line lt is =
     at_drop_more (marked_lines step_lines nodes number) lines i line lt ∙ ap (λ l. marked_lines step_lines nodes number (l ∷ drop (i + 1) lines)) (sym is)
+
+-- the same in a form of lines
+pub next_trace_line : (form : LineForm) (step_lines : Option (List ℕ)) (nodes : List SetupNode) (k : ℕ) (lines : List Line) (i : ℕ) (line : Line) → i < length lines → line ≡ get_or lines i line
+    → trace_lines form step_lines nodes k (drop i lines)
+    ≡ trace_line form step_lines nodes k line ++ trace_lines form step_lines nodes (number_after k line) (drop (i + 1) lines)
+next_trace_line form step_lines nodes k lines i line lt is =
+    at_drop_more (trace_lines form step_lines nodes k) lines i line lt ∙ ap (λ l. trace_lines form step_lines nodes k (l ∷ drop (i + 1) lines)) (sym is)
 
 -- where no lines of the schedule are shown, nothing stands before the lines of a trace
 pub plain_lines : (nodes : List SetupNode) (number : ℕ) (lines : List Line) → marked_lines None nodes number lines ≡ numbered_lines nodes number lines

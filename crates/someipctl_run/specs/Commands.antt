@@ -17,6 +17,7 @@ use Rattle.someip_world_setup.specs.declared.setup_node.SetupNode.{SetupNode}
 use Rattle.someipctl_io.specs.Inputs.{WasLeft}
 use Rattle.someipctl_io.specs.declared.fault.Fault.{Fault}
 use Rattle.someipctl_io.specs.declared.fault.Fault.TheVariants.{Refused, CannotRead, CannotWrite, OutOfMemory}
+use Rattle.someipctl_run.specs.ToldTraces.{object_trace}
 use Rattle.someipctl_run.specs.Traces.{formed_trace, trace_text}
 use Rattle.someipctl_run.specs.declared.error.ScheduleRefusal.{ScheduleRefusal}
 use Rattle.someipctl_run.specs.declared.error.ScheduleRefusal.TheVariants.{BadLine, BadStep}
@@ -133,3 +134,17 @@ RanInputInForm form nodes input before after = OfInput input (λ text. RanInForm
 
 abbrev pub RefusesInputRunInForm : TraceForm → List SetupNode → Option (List ℕ) → Fault ScheduleRefusal → Option (List ℕ) → Option (List ℕ) → Type 0
 RefusesInputRunInForm form nodes input fault before after = RefusesReading (RefusesRunInForm form nodes) input fault before after
+
+-- ---- the trace as objects
+
+abbrev pub RanAsObjects : TraceForm → List SetupNode → List ℕ → Option (List ℕ) → Option (List ℕ) → Type 0
+RanAsObjects form nodes text before after = RanAs (object_trace form text nodes) nodes text before after
+
+abbrev pub RefusesRunAsObjects : TraceForm → List SetupNode → List ℕ → Fault ScheduleRefusal → Option (List ℕ) → Option (List ℕ) → Type 0
+RefusesRunAsObjects form nodes text fault before after = RefusesRunAs (object_trace form text nodes) nodes text fault before after
+
+abbrev pub RanInputAsObjects : TraceForm → List SetupNode → Option (List ℕ) → Option (List ℕ) → Option (List ℕ) → Type 0
+RanInputAsObjects form nodes input before after = OfInput input (λ text. RanAsObjects form nodes text before after)
+
+abbrev pub RefusesInputRunAsObjects : TraceForm → List SetupNode → Option (List ℕ) → Fault ScheduleRefusal → Option (List ℕ) → Option (List ℕ) → Type 0
+RefusesInputRunAsObjects form nodes input fault before after = RefusesReading (RefusesRunAsObjects form nodes) input fault before after

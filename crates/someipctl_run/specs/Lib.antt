@@ -2,6 +2,10 @@ pub mod Faults
 pub mod Outputs
 pub mod StepLines
 pub mod Traces
+pub mod ToldOutputs
+pub mod ToldTraces
+pub mod TraceViews
+pub mod ToldExamples
 pub mod Commands
 pub mod Expected
 pub mod FormedTraces

@@ -5,11 +5,13 @@ ghost use Rattle.someip_world_schedule.specs.Schedule.{lines_of_steps};
 ghost use Rattle.someipctl_io.specs.Sending.{Sends, Stops};
 ghost use Rattle.someipctl_run.specs.Commands.{IsTraceOf, RanInForm, RanInput, RanInputInForm};
 ghost use Rattle.someipctl_run.specs.Commands.{RefusesInputRun, RefusesInputRunInForm, RefusesRunInForm};
-ghost use Rattle.someipctl_run.specs.Commands.{RefusesTrace};
-ghost use Rattle.someipctl_run.specs.FormedTraces.{trace_in_form};
+ghost use Rattle.someipctl_run.specs.Commands.{RanAsObjects, RanInputAsObjects, RefusesInputRunAsObjects};
+ghost use Rattle.someipctl_run.specs.Commands.{RefusesRunAsObjects, RefusesTrace};
+ghost use Rattle.someipctl_run.specs.FormedTraces.{objects_in_form, trace_in_form};
 
 use crate::error::{ScheduleRefusal, fault_of_run, fault_of_schedule};
 use crate::form::{FormedTrace, TraceForm};
+use crate::objects::put_objects;
 use crate::trace_lines::{put_lines, put_verdict};
 use someip_tp::IntervalPool;
 use someip_world::{Setup, Trace, read_numbered_schedule, run};
@@ -82,6 +84,53 @@ fn run_text<W: Write>(
     Ok(())
 }
 
+/// Reads a schedule whole, runs it over a setup, and then writes the trace as JSON objects, one for each line
+/// of the trace in a form. The verdict is the last one.
+pub fn run_schedule_objects<R: Read, W: Write>(
+    alloc: Global,
+    setup: &Setup,
+    form: TraceForm,
+    reader: &mut R,
+    writer: &mut W,
+) -> Result<(), Fault<ScheduleRefusal>>
+    // The objects of the schedule's trace were written, byte for byte, and that of the verdict on it.
+    ensures ran { OnOk result (RanInputAsObjects form setup.now.nodes (R.remaining reader.old)
+        (W.contents writer.old) (W.contents writer.new)) }
+    // An error names the first bad line or the first step that can't happen, and leaves nothing
+    // written, but for one of writing: that leaves a beginning of the text.
+    ensures refused { IfErr result (λ fault. RefusesInputRunAsObjects form setup.now.nodes
+        (R.remaining reader.old) fault (W.contents writer.old) (W.contents writer.new)) }
+{
+    let text = read_all(alloc, reader)?;
+    run_text_as_objects(alloc, setup, form, &text, writer)
+}
+
+/// Runs the schedule that a text spells over a setup, and then writes the trace as objects.
+fn run_text_as_objects<W: Write>(
+    alloc: Global,
+    setup: &Setup,
+    form: TraceForm,
+    text: &[u8],
+    writer: &mut W,
+) -> Result<(), Fault<ScheduleRefusal>>
+    ensures ran { OnOk result (RanAsObjects form setup.now.nodes text.now
+        (W.contents writer.old) (W.contents writer.new)) }
+    ensures refused { IfErr result (λ fault. RefusesRunAsObjects form setup.now.nodes text.now fault
+        (W.contents writer.old) (W.contents writer.new)) }
+{
+    let ran = run_of_text(alloc, setup, text)?;
+    let mut buffer = Buffer::new(alloc)?;
+    let trace = FormedTrace {
+        form,
+        step_lines: &ran.step_lines,
+        nodes: setup.nodes(),
+        lines: &ran.trace.lines,
+        verdict: ran.trace.verdict,
+    };
+    write_objects(&mut buffer, writer, &trace)?;
+    Ok(())
+}
+
 /// What a schedule gave.
 #[derive(Drop)]
 pub(crate) struct ScheduleRun {
@@ -123,6 +172,22 @@ fn write_trace<W: Write>(
         (trace_in_form trace.now)) }
 {
     put_trace(buffer, writer, trace)?;
+    buffer.flush(writer)
+}
+
+/// Writes a trace as objects through an empty buffer.
+fn write_objects<W: Write>(
+    buffer: &mut Buffer,
+    writer: &mut W,
+    trace: &FormedTrace<'_>,
+) -> Result<(), CannotWrite>
+    requires empty { buffer.old ≡ [] }
+    ensures ok { OnOk result (Appends (W.contents writer.old) (W.contents writer.new)
+        (objects_in_form trace.now)) }
+    ensures err { OnErr result (Stops (W.contents writer.old) [] (W.contents writer.new)
+        (objects_in_form trace.now)) }
+{
+    put_objects(buffer, writer, trace)?;
     buffer.flush(writer)
 }
 

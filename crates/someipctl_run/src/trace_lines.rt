@@ -125,7 +125,7 @@ fn put_margin<W: Write>(
 }
 
 /// The line of the schedule by which a line of a step came, where those are shown.
-fn shown_line_of(step_lines: Option<&[usize]>, step: usize) -> Option<usize>
+pub(crate) fn shown_line_of(step_lines: Option<&[usize]>, step: usize) -> Option<usize>
     ensures { result ≡ shown_line_of (pointed step_lines.entry) step }
 {
     match step_lines {
@@ -192,7 +192,7 @@ fn head_parts<'n>(nodes: &'n [SetupNode], line: &Line) -> [Part<'n>; 3]
 }
 
 /// The name of the node at a place.
-fn node_name(nodes: &[SetupNode], place: usize) -> &str
+pub(crate) fn node_name(nodes: &[SetupNode], place: usize) -> &str
     ensures { result.now ≡ node_name nodes.now place }
 {
     match nodes.get(place) {
