@@ -2,3 +2,4 @@ pub mod TraceLemmas
 pub mod ExpectedLemmas
 pub mod ComparingLemmas
 pub mod LawLemmas
+pub mod ToldLemmas
