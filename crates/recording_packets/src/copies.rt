@@ -12,8 +12,8 @@
 //!
 //! How packets are kept. Each stands once, with its payload, at the turn in which it was seen last;
 //! the turns rise, so the oldest stands first. Beside that stand the turns by packet, in order: a
-//! packet is found in O(log n) looks, none of which reads more than its own bytes. No hash is
-//! needed that a recording could be made against.
+//! packet is found in O(log n) looks, none of which reads more than its own bytes. Digests stand first
+//! in that order, so mostly no bytes are compared; where a recording was made against them, they are.
 ghost use Rattle.std.specs.Prelude.{◌≡◌, [], IfOk, OnOk, OnErr};
 ghost use Rattle.recording.specs.View.{view_ipv4};
 ghost use Rattle.recording_packets.specs.copies.Remembered.{after, is_copy};

@@ -98,5 +98,5 @@ tie_is a b = both_tie _ _ _ _ (number_tie a.mark b.mark) (packets_tie a.owned.va
     cases : (x : Bool) → is_same (packet_of a.owned.value) (packet_of b.owned.value) ≡ x → (a.mark == b.mark && x) ≡ x
     cases true same =
         let one = same_is (packet_of a.owned.value) (packet_of b.owned.value) same in
-        ap (λ t. t && true) (eq-eqb a.mark b.mark (a.marked ∙ ap (λ (p : Ipv4Value). mark_of p.identification p.payload) one ∙ sym b.marked))
+        ap (λ t. t && true) (eq-eqb a.mark b.mark (a.marked ∙ ap mark_of one ∙ sym b.marked))
     cases false other = either (a.mark == b.mark)

@@ -6,6 +6,7 @@ ghost use Rattle.recording_packets.specs.copies.Owned.{packet_of};
 
 use recording::Ipv4Packet;
 use std::alloc::{AllocError, Global};
+use std::hash::{FoldHasher, Hasher};
 use std::rc::Rc;
 
 /// A packet with a payload of its own.
@@ -19,13 +20,12 @@ pub(crate) struct OwnedPacket {
     pub(crate) destination: [u8; 4],
 }
 
-/// A packet that two tables share, and a number in which two packets mostly differ, so that few
-/// payloads are compared.
+/// A packet that two tables share, and a digest of it, so that few payloads are compared.
 #[derive(Drop, PartialEq, Eq, PartialOrd, Ord)]
 pub(crate) struct SharedPacket {
     pub(crate) mark: u64,
     pub(crate) owned: Rc<OwnedPacket>,
-    ghost marked: { mark ≡ mark_of owned.value.identification owned.value.payload.items },
+    ghost marked: { mark ≡ mark_of (packet_of owned.value) },
 }
 
 impl SharedPacket {
@@ -42,7 +42,7 @@ impl SharedPacket {
             destination: packet.destination,
         };
         Ok(SharedPacket {
-            mark: mark_of(packet.identification, packet.payload),
+            mark: mark_of(packet),
             owned: Rc::new(alloc, owned)?,
         })
     }
@@ -58,15 +58,15 @@ impl SharedPacket {
     }
 }
 
-/// The identification, and the second four bytes of the payload: for UDP its length and checksum,
-/// for TCP the sequence number.
-fn mark_of(identification: u16, payload: &[u8]) -> u64
-    ensures { result ≡ mark_of identification payload.now }
+/// A digest of a packet: of its source, identification and payload. Its seed is fixed, so that packets
+/// can be made which have one digest.
+#[tactic(auto, unfolding(crate::specs::copies::Marks::mark_of))]
+fn mark_of(packet: &Ipv4Packet) -> u64
+    ensures { result ≡ mark_of (view_ipv4 packet.now) }
 {
-    let second = if payload.len() < 8 {
-        0
-    } else {
-        u32::from_be_bytes([payload[4], payload[5], payload[6], payload[7]])
-    };
-    u64::from(identification) * 0x1_0000_0000 + u64::from(second)
+    let mut hasher = FoldHasher::default();
+    hasher.write(&packet.source);
+    hasher.write_u16(packet.identification);
+    hasher.write(packet.payload);
+    hasher.finish()
 }
