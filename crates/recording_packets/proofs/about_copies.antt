@@ -1,4 +1,5 @@
 pub mod SamePackets
+pub mod SlotLemmas
 pub mod Turns
 pub mod Noted
 pub mod Costs

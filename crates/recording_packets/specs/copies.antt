@@ -4,4 +4,5 @@ pub mod Recordings
 pub mod Examples
 pub mod Marks
 pub mod Owned
+pub mod Slots
 pub mod Tables

@@ -11,9 +11,9 @@
 //! - [`laws`]: what the definitions behind the contracts promise.
 //!
 //! How packets are kept. Each stands once, with its payload, at the turn in which it was seen last;
-//! the turns rise, so the oldest stands first. Beside that stand the turns by packet, in order: a
-//! packet is found in O(log n) looks, none of which reads more than its own bytes. Digests stand first
-//! in that order, so mostly no bytes are compared; where a recording was made against them, they are.
+//! the turns rise, so the oldest stands first. Beside that stand the turns by packet: mostly in a slot
+//! by the packet's digest, where one look finds it. Where another packet has the slot, the turn stands
+//! in the order of packets, and takes O(log n) looks; so no recording can be made against the digests.
 ghost use Rattle.std.specs.Prelude.{◌≡◌, [], IfOk, OnOk, OnErr};
 ghost use Rattle.recording.specs.View.{view_ipv4};
 ghost use Rattle.recording_packets.specs.copies.Remembered.{after, is_copy};
@@ -21,9 +21,11 @@ ghost use Rattle.recording_packets.specs.copies.Remembered.{after, is_copy};
 pub mod laws;
 mod owned;
 mod tables;
+mod turns;
 
 use crate::copies::owned::SharedPacket;
-use crate::copies::tables::{Sighting, Sightings, Turns, cost_of, forget, is_recent, note};
+use crate::copies::tables::{Sighting, Sightings, cost_of, forget, is_recent, note};
+use crate::copies::turns::Turns;
 use recording::Ipv4Packet;
 use std::alloc::{AllocError, Global};
 use std::collections::BTreeMap;
@@ -67,7 +69,7 @@ impl Copies {
             alloc,
             window,
             sightings: BTreeMap::new(alloc),
-            turns: BTreeMap::new(alloc),
+            turns: Turns::new(alloc),
             next: 0,
             cost: 0,
         }

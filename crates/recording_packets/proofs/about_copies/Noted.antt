@@ -1,17 +1,18 @@
 -- Entries after a packet was noted: those of the other packets, and it as the youngest.
 use Rattle.std.proofs.Common.{◌≡◌, ℕ, ◌+◌, ◌<◌, Bool, true, false, not, cond, List, [], ◌∷◌, ◌++◌, Option, None, Some, refl, ap, sym, subst, ◌∙◌, arith}
 use Rattle.std.specs.Map.{lookup, remove_entry}
-use Rattle.std.specs.BTreeMap as tree
-use Rattle.std.specs.BTreeMap.{BTreeMap, insert_entry, is_at}
+use Rattle.std.specs.BTreeMap.{insert_entry, is_at}
 use Rattle.std.specs.Ordering.{nat_cmp, is_eq}
 use Rattle.std.proofs.lemmas.Bool.Decides.{nat_tests}
 use Rattle.recording.specs.Packets.{Ipv4Value}
 use Rattle.recording_packets.specs.copies.Remembered.{is_same, others}
 use Rattle.recording_packets.specs.copies.Owned.{packet_of}
 use Rattle.recording_packets.specs.declared.copies.owned.SharedPacket.{SharedPacket}
-use Rattle.recording_packets.specs.copies.Tables.{HasTurns, IsInTurn, StandsBefore, remembered_in, shared_cmp, turn_of, value_of}
+use Rattle.recording_packets.specs.copies.Slots.{turn_in}
+use Rattle.recording_packets.specs.copies.Tables.{HasTurns, IsInTurn, StandsBefore, remembered_in, turn_of, value_of}
 use Rattle.recording_packets.specs.declared.copies.tables.Sighting.{Sighting}
-use Rattle.recording_packets.proofs.about_copies.SamePackets.{same_is, same_self, tie_is}
+use Rattle.recording_packets.specs.declared.copies.turns.Turns.{Turns}
+use Rattle.recording_packets.proofs.about_copies.SamePackets.{same_is, same_self}
 use Rattle.recording_packets.proofs.about_copies.Turns.{found_at, insert_last, packet_at, without, not_at, own_turn, some_is, other_is, none_after, turn_after, turn_below}
 
 abbrev pub noted : ℕ → Sighting → List (ℕ × Sighting) → List (ℕ × Sighting)
@@ -197,12 +198,12 @@ in_turn_noted = in_turn_last
 -- ---- in the tables
 
 -- the turns after a packet was noted
-pub turns_noted : (next : ℕ) (s : Sighting) (es : List (ℕ × Sighting)) (turns turns' : BTreeMap SharedPacket ℕ) (k : SharedPacket) → packet_of k.owned.value ≡ packet_of s.packet.owned.value
-    → ((q : SharedPacket) → tree.get shared_cmp turns' q ≡ cond (is_at (shared_cmp k) q) (Some next) (tree.get shared_cmp turns q))
+pub turns_noted : (next : ℕ) (s : Sighting) (es : List (ℕ × Sighting)) (turns turns' : Turns) (k : SharedPacket) → packet_of k.owned.value ≡ packet_of s.packet.owned.value
+    → ((q : SharedPacket) → turn_in turns' q ≡ cond (is_same (packet_of k.owned.value) (packet_of q.owned.value)) (Some next) (turn_in turns q))
     → HasTurns turns es → HasTurns turns' (noted next s es)
 turns_noted next s es turns turns' k same updates has q =
     updates q
-    ∙ ap (λ b. cond b (Some next) (tree.get shared_cmp turns q)) (tie_is k q ∙ ap (λ (p : Ipv4Value). is_same p (packet_of q.owned.value)) same)
+    ∙ ap (λ (p : Ipv4Value). cond (is_same p (packet_of q.owned.value)) (Some next) (turn_in turns q)) same
     ∙ ap (λ t. cond (is_same (packet_of s.packet.owned.value) (packet_of q.owned.value)) (Some next) t) (has q)
     ∙ sym (turn_noted (packet_of q.owned.value) next s es)
 
@@ -218,14 +219,13 @@ renews next t moment es more left p k earlier h is found clone inserts removes =
           ∙ renewed next t es p (record { moment = moment; packet = k }) same h is,
     )
 
-pub turns_added : (next : ℕ) (s : Sighting) (es more : List (ℕ × Sighting)) (turns turns' : BTreeMap SharedPacket ℕ) (k : SharedPacket) → turn_of (packet_of s.packet.owned.value) es ≡ None
+pub turns_added : (next : ℕ) (s : Sighting) (es more : List (ℕ × Sighting)) (turns turns' : Turns) (k : SharedPacket) → turn_of (packet_of s.packet.owned.value) es ≡ None
     → more ≡ es ++ (next, s) ∷ [] → packet_of k.owned.value ≡ packet_of s.packet.owned.value
-    → ((q : SharedPacket) → tree.get shared_cmp turns' q ≡ cond (is_at (shared_cmp k) q) (Some next) (tree.get shared_cmp turns q))
+    → ((q : SharedPacket) → turn_in turns' q ≡ cond (is_same (packet_of k.owned.value) (packet_of q.owned.value)) (Some next) (turn_in turns q))
     → HasTurns turns es → HasTurns turns' more
 turns_added next s es more turns turns' k none is same updates has =
     subst (HasTurns turns') (sym (is ∙ added next es s none)) (turns_noted next s es turns turns' k same updates has)
 
 -- the tables as they were
-pub kept_turns : (es es' : List (ℕ × Sighting)) (turns turns' : BTreeMap SharedPacket ℕ) → turns'.entries ≡ turns.entries → es' ≡ es → HasTurns turns es → HasTurns turns' es'
-kept_turns es es' turns turns' same is has q =
-    ap (lookup (is_at (shared_cmp q))) same ∙ has q ∙ ap (turn_of (packet_of q.owned.value)) (sym is)
+pub kept_turns : (es es' : List (ℕ × Sighting)) (turns turns' : Turns) → ((q : SharedPacket) → turn_in turns' q ≡ turn_in turns q) → es' ≡ es → HasTurns turns es → HasTurns turns' es'
+kept_turns es es' turns turns' same is has q = same q ∙ has q ∙ ap (turn_of (packet_of q.owned.value)) (sym is)

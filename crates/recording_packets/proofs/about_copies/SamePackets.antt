@@ -13,7 +13,7 @@ use Rattle.recording_packets.specs.copies.Remembered.{is_same}
 use Rattle.recording_packets.specs.copies.Owned.{packet_of}
 use Rattle.recording_packets.specs.copies.Marks.{mark_of}
 use Rattle.recording_packets.specs.declared.copies.owned.SharedPacket.{SharedPacket}
-use Rattle.recording_packets.specs.copies.Tables.{packet_cmp, shared_cmp}
+use Rattle.recording_packets.specs.copies.Slots.{packet_cmp, shared_cmp}
 use Rattle.recording_packets.specs.declared.copies.owned.OwnedPacket.{OwnedPacket}
 
 pub both : (a b : Bool) → (a && b) ≡ true → (a ≡ true) × (b ≡ true)

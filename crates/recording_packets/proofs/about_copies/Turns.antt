@@ -2,8 +2,7 @@
 use Rattle.std.proofs.Common.{◌≡◌, ℕ, ◌<◌, Bool, true, false, cond, List, [], ◌∷◌, ◌++◌, Option, None, Some, refl, ap, sym, subst, ◌∙◌, arith}
 use Rattle.std.specs.Prelude.{Result, Ok, Err, OnOk, OnErr, is_err}
 use Rattle.std.specs.Map.{lookup, remove_entry}
-use Rattle.std.specs.BTreeMap as tree
-use Rattle.std.specs.BTreeMap.{BTreeMap, insert_entry, is_at}
+use Rattle.std.specs.BTreeMap.{insert_entry, is_at}
 use Rattle.std.specs.Ordering.{nat_cmp, is_eq, match_ordering}
 use Rattle.std.specs.declared.cmp.Ordering.TheVariants.{Greater}
 use Rattle.std.proofs.lemmas.Bool.Decides.{nat_tests}
@@ -11,9 +10,11 @@ use Rattle.recording.specs.Packets.{Ipv4Value}
 use Rattle.recording_packets.specs.copies.Remembered.{is_same}
 use Rattle.recording_packets.specs.copies.Owned.{packet_of}
 use Rattle.recording_packets.specs.declared.copies.owned.SharedPacket.{SharedPacket}
-use Rattle.recording_packets.specs.copies.Tables.{HasTurns, IsInTurn, StandsBefore, moment_of, shared_cmp, turn_of}
+use Rattle.recording_packets.specs.copies.Slots.{turn_in}
+use Rattle.recording_packets.specs.copies.Tables.{HasTurns, IsInTurn, StandsBefore, moment_of, turn_of}
 use Rattle.recording_packets.specs.declared.copies.tables.Sighting.{Sighting}
-use Rattle.recording_packets.proofs.about_copies.SamePackets.{same_is, same_turned, tie_is}
+use Rattle.recording_packets.specs.declared.copies.turns.Turns.{Turns}
+use Rattle.recording_packets.proofs.about_copies.SamePackets.{same_is, same_self, same_turned}
 
 -- the packet of an entry
 abbrev pub packet_at : ℕ × Sighting → Ipv4Value
@@ -120,15 +121,36 @@ first_gone e es q h = cases (is_same (packet_at e) q) refl
 
 -- ---- in the tables
 
-pub forgotten : (next : ℕ) (es left : List (ℕ × Sighting)) (turns turns' : BTreeMap SharedPacket ℕ) (turn : ℕ) (s : Sighting) → es ≡ (turn, s) ∷ left
-    → ((q : SharedPacket) → tree.get shared_cmp turns' q ≡ cond (is_at (shared_cmp s.packet) q) None (tree.get shared_cmp turns q))
+pub forgotten : (next : ℕ) (es left : List (ℕ × Sighting)) (turns turns' : Turns) (turn : ℕ) (s : Sighting) → es ≡ (turn, s) ∷ left
+    → ((q : SharedPacket) → turn_in turns' q ≡ cond (is_same (packet_of s.packet.owned.value) (packet_of q.owned.value)) None (turn_in turns q))
     → IsInTurn next es → HasTurns turns es → HasTurns turns' left
 forgotten next es left turns turns' turn s is updates h has q =
     let h : IsInTurn next ((turn, s) ∷ left) = subst (IsInTurn next) is h in
     updates q
-    ∙ ap (λ b. cond b None (tree.get shared_cmp turns q)) (tie_is s.packet q)
     ∙ ap (λ t. cond (is_same (packet_of s.packet.owned.value) (packet_of q.owned.value)) None t) (has q ∙ ap (turn_of (packet_of q.owned.value)) is)
     ∙ first_gone (turn, s) left (packet_of q.owned.value) h.1
+
+-- the first has its turn
+pub first_turn : (es left : List (ℕ × Sighting)) (turns : Turns) (turn : ℕ) (s : Sighting) → es ≡ (turn, s) ∷ left → HasTurns turns es → turn_in turns s.packet ≡ Some turn
+first_turn es left turns turn s is has =
+    has s.packet ∙ ap (turn_of (packet_of s.packet.owned.value)) is ∙ some_is _ _ (turn_of (packet_of s.packet.owned.value) left) (same_self (packet_of s.packet.owned.value))
+
+-- and no other packet has it
+pub first_alone : (next : ℕ) (es left : List (ℕ × Sighting)) (turns : Turns) (turn : ℕ) (s : Sighting) → es ≡ (turn, s) ∷ left → IsInTurn next es → HasTurns turns es
+    → (q : SharedPacket) → turn_in turns q ≡ Some turn → packet_of q.owned.value ≡ packet_of s.packet.owned.value
+first_alone next es left turns turn s is h has q at = cases (is_same (packet_of s.packet.owned.value) (packet_of q.owned.value)) refl
+  where
+    stands : IsInTurn next ((turn, s) ∷ left)
+    stands = subst (IsInTurn next) is h
+
+    found : turn_of (packet_of q.owned.value) ((turn, s) ∷ left) ≡ Some turn
+    found = ap (turn_of (packet_of q.owned.value)) (sym is) ∙ sym (has q) ∙ at
+
+    cases : (b : Bool) → is_same (packet_of s.packet.owned.value) (packet_of q.owned.value) ≡ b → packet_of q.owned.value ≡ packet_of s.packet.owned.value
+    cases true same = sym (same_is _ _ same)
+    cases false other =
+        let below : turn < turn = turn_after turn (turn, s) left (packet_of q.owned.value) stands.1 (sym (other_is _ (Some turn) _ other) ∙ found) in
+        absurd (omega (arith, below))
 
 pub err_is : {T E P : Type 0} (r : Result T E) → is_err r ≡ true → OnErr r P → P
 err_is (Ok x) h p = cc

@@ -1,17 +1,13 @@
 -- How what is remembered stands in tables: by the turn of each packet, and the turns by packet.
 use Rattle.std.specs.Prelude.{◌≡◌, ⊤, ℕ, ◌<◌, ◌≤◌, Bool, false, if◌then◌else◌, List, [], ◌∷◌, map, Option, None, Some}
-use Rattle.std.specs.BTreeMap as tree
-use Rattle.std.specs.BTreeMap.{BTreeMap}
-use Rattle.std.specs.Cmp.Lexicographic.{slice_cmp}
-use Rattle.std.specs.Ordering.{nat_cmp, ordering_then}
-use Rattle.std.specs.declared.cmp.Ordering.{Ordering}
 use Rattle.recording.specs.Packets.{Ipv4Value}
 use Rattle.recording_packets.specs.copies.Remembered.{Memory, SightingValue, cost_of_all, is_same, is_within}
 use Rattle.recording_packets.specs.copies.Owned.{packet_of}
-use Rattle.recording_packets.specs.declared.copies.owned.OwnedPacket.{OwnedPacket}
+use Rattle.recording_packets.specs.copies.Slots.{turn_in}
 use Rattle.recording_packets.specs.declared.copies.owned.SharedPacket.{SharedPacket}
 use Rattle.recording_packets.specs.declared.copies.TheConstants.{BUDGET}
 use Rattle.recording_packets.specs.declared.copies.tables.Sighting.{Sighting}
+use Rattle.recording_packets.specs.declared.copies.turns.Turns.{Turns}
 
 -- a sighting as a value
 abbrev pub value_of : Sighting → SightingValue
@@ -20,19 +16,6 @@ value_of s = record { moment = s.moment; packet = packet_of s.packet.owned.value
 -- what these sightings, each at its turn, remember
 abbrev pub remembered_in : List (ℕ × Sighting) → List SightingValue
 remembered_in entries = map (λ e. value_of e.1) entries
-
--- the order of packets: field by field, those first in which two mostly differ
-abbrev pub packet_cmp : OwnedPacket → OwnedPacket → Ordering
-packet_cmp a b =
-    ordering_then (nat_cmp a.identification b.identification)
-    (ordering_then (nat_cmp a.fragment b.fragment)
-    (ordering_then (nat_cmp a.protocol b.protocol)
-    (ordering_then (slice_cmp nat_cmp a.payload.items b.payload.items)
-    (ordering_then (slice_cmp nat_cmp a.source b.source) (slice_cmp nat_cmp a.destination b.destination)))))
-
--- the same, with the marks before the fields
-abbrev pub shared_cmp : SharedPacket → SharedPacket → Ordering
-shared_cmp a b = ordering_then (nat_cmp a.mark b.mark) (packet_cmp a.owned.value b.owned.value)
 
 -- the turn of a packet, if it is remembered
 abbrev pub turn_of : Ipv4Value → List (ℕ × Sighting) → Option ℕ
@@ -65,17 +48,21 @@ abbrev pub IsInTurn : ℕ → List (ℕ × Sighting) → Type 0
 IsInTurn next [] = ⊤
 IsInTurn next (e ∷ es) = (e.0 < next) × StandsBefore e es × IsInTurn next es
 
+-- the turns rise, and no packet stands twice
+abbrev pub StandInTurn : List (ℕ × Sighting) → Type 0
+StandInTurn entries = (next : ℕ) × IsInTurn next entries
+
 -- the turns stand under their packets
-abbrev pub HasTurns : BTreeMap SharedPacket ℕ → List (ℕ × Sighting) → Type 0
+abbrev pub HasTurns : Turns → List (ℕ × Sighting) → Type 0
 HasTurns turns entries =
-    (packet : SharedPacket) → tree.get shared_cmp turns packet ≡ turn_of (packet_of packet.owned.value) entries
+    (packet : SharedPacket) → turn_in turns packet ≡ turn_of (packet_of packet.owned.value) entries
 
 -- what the tables remember
 abbrev pub memory_of : ℕ → List (ℕ × Sighting) → Memory
 memory_of window entries = record { window = window; remembered = remembered_in entries }
 
 -- the tables agree, the turns are below the next one, and what is remembered is counted and within the budget
-pub record IsKept (entries : List (ℕ × Sighting)) (turns : BTreeMap SharedPacket ℕ) (next cost : ℕ) : Type 0 where
+pub record IsKept (entries : List (ℕ × Sighting)) (turns : Turns) (next cost : ℕ) : Type 0 where
   pub in_turn : IsInTurn next entries
   pub has_turns : HasTurns turns entries
   pub counted : cost ≡ cost_of_all (remembered_in entries)

@@ -1,12 +1,12 @@
 //! Packets that are remembered.
 ghost use Rattle.std.specs.Prelude.{◌≡◌, IfOk};
 ghost use Rattle.recording.specs.View.{view_ipv4};
-ghost use Rattle.recording_packets.specs.copies.Marks.{mark_of};
+ghost use Rattle.recording_packets.specs.copies.Marks.{mark_of, mixed, word_at};
 ghost use Rattle.recording_packets.specs.copies.Owned.{packet_of};
+ghost use Rattle.recording_packets.specs.copies.Remembered.{is_same};
 
 use recording::Ipv4Packet;
 use std::alloc::{AllocError, Global};
-use std::hash::{FoldHasher, Hasher};
 use std::rc::Rc;
 
 /// A packet with a payload of its own.
@@ -18,6 +18,20 @@ pub(crate) struct OwnedPacket {
     pub(crate) payload: Vec<u8>,
     pub(crate) source: [u8; 4],
     pub(crate) destination: [u8; 4],
+}
+
+impl OwnedPacket {
+    /// Whether nothing tells two packets apart.
+    fn is_same(&self, other: &OwnedPacket) -> bool
+        ensures { result ≡ is_same (packet_of self.now) (packet_of other.now) }
+    {
+        self.identification == other.identification
+            && self.fragment == other.fragment
+            && self.protocol == other.protocol
+            && self.payload == other.payload
+            && self.source == other.source
+            && self.destination == other.destination
+    }
 }
 
 /// A packet that two tables share, and a digest of it, so that few payloads are compared.
@@ -47,6 +61,13 @@ impl SharedPacket {
         })
     }
 
+    /// Whether nothing tells two packets apart.
+    pub(crate) fn is_same(&self, other: &SharedPacket) -> bool
+        ensures { result ≡ is_same (packet_of self.now.owned.value) (packet_of other.now.owned.value) }
+    {
+        self.mark == other.mark && self.owned.is_same(&other.owned)
+    }
+
     /// The same packet, shared once more. The payload is not copied.
     pub(crate) fn share(&self) -> Result<SharedPacket, AllocError>
         ensures { IfOk result (λ shared. shared.owned.value ≡ self.now.owned.value) }
@@ -58,15 +79,43 @@ impl SharedPacket {
     }
 }
 
-/// A digest of a packet: of its source, identification and payload. Its seed is fixed, so that packets
+/// A digest of a packet: of its header, and of the first 32 and the last 8 bytes of its payload. Packets
 /// can be made which have one digest.
-#[tactic(auto, unfolding(crate::specs::copies::Marks::mark_of))]
 fn mark_of(packet: &Ipv4Packet) -> u64
     ensures { result ≡ mark_of (view_ipv4 packet.now) }
 {
-    let mut hasher = FoldHasher::default();
-    hasher.write(&packet.source);
-    hasher.write_u16(packet.identification);
-    hasher.write(packet.payload);
-    hasher.finish()
+    let payload = packet.payload;
+    let header = u64::from(packet.identification) * 0x1_0000 + u64::from(packet.fragment);
+    let mark = mixed(header, u64::from(u32::from_be_bytes(packet.source)));
+    let mark = mixed(mark, word_at(payload, 0));
+    let mark = mixed(mark, word_at(payload, 8));
+    let mark = mixed(mark, word_at(payload, 16));
+    let mark = mixed(mark, word_at(payload, 24));
+    mixed(mark, word_at(payload, payload.len().saturating_sub(8)))
+}
+
+/// A digest, and a word more. The product brings each bit of both to the highest bits.
+fn mixed(mark: u64, word: u64) -> u64
+    ensures { result ≡ mixed mark word }
+{
+    (mark ^ word).wrapping_mul(0x9e37_79b9_7f4a_7c15)
+}
+
+/// Eight bytes of a payload as a number, or 0 where it ends before.
+fn word_at(payload: &[u8], at: usize) -> u64
+    ensures { result ≡ word_at payload.now at }
+{
+    if payload.len() < 8 || at > payload.len() - 8 {
+        return 0;
+    }
+    u64::from_be_bytes([
+        payload[at],
+        payload[at + 1],
+        payload[at + 2],
+        payload[at + 3],
+        payload[at + 4],
+        payload[at + 5],
+        payload[at + 6],
+        payload[at + 7],
+    ])
 }

@@ -1,16 +1,14 @@
 //! What is remembered, by the turn of each packet, and the turns by packet.
-ghost use Rattle.std.specs.Prelude.{◌≡◌, ◌+◌, ℕ, ◌∷◌, ◌++◌, [], drop, if◌then◌else◌};
-ghost use Rattle.std.specs.Prelude.{Some, None, IfOk, OnOk, OnErr, IsSome};
-ghost use Rattle.std.specs.BTreeMap as tree;
+ghost use Rattle.std.specs.Prelude.{◌≡◌, ◌+◌, ℕ, ◌∷◌, ◌++◌, [], drop};
+ghost use Rattle.std.specs.Prelude.{Some, None, IfOk, OnOk, OnErr};
 ghost use Rattle.recording_packets.specs.copies.Remembered.{others, kept, has_to_go};
 ghost use Rattle.recording_packets.specs.copies.Remembered.{cost_of_all, packet_cost};
 ghost use Rattle.recording_packets.specs.copies.Owned.{packet_of};
-ghost use Rattle.recording_packets.specs.declared.copies.owned.SharedPacket.{SharedPacket};
-ghost use Rattle.recording_packets.specs.copies.Tables.{HasTurns, IsInTurn, moment_of, turn_of};
-ghost use Rattle.recording_packets.specs.copies.Tables.{remembered_in, value_of};
-ghost use Rattle.recording_packets.specs.copies.Tables.{shared_cmp, was_within};
+ghost use Rattle.recording_packets.specs.copies.Tables.{HasTurns, IsInTurn, StandInTurn, moment_of, turn_of};
+ghost use Rattle.recording_packets.specs.copies.Tables.{remembered_in, value_of, was_within};
 
 use crate::copies::owned::SharedPacket;
+use crate::copies::turns::Turns;
 use crate::copies::{BUDGET, PACKET_COST};
 use std::alloc::AllocError;
 use std::collections::BTreeMap;
@@ -24,9 +22,6 @@ pub(crate) struct Sighting {
 
 /// The sightings by turn: the turn of each is above those before it.
 pub(crate) type Sightings = BTreeMap<u64, Sighting>;
-
-/// The turn of each packet that is remembered.
-pub(crate) type Turns = BTreeMap<SharedPacket, u64>;
 
 /// Remembers a packet as the youngest, at the next turn. Tells the moment at which it was seen
 /// last, if it was remembered. What is refused because memory ran out leaves all as it was.
@@ -48,10 +43,7 @@ pub(crate) fn note(
     ensures has_turns { HasTurns turns.new sightings.new.entries }
 {
     match turns.get(&sighting.packet) {
-        Some(turn) => {
-            let turn = *turn;
-            renew(sightings, turns, turn, next, sighting)
-        }
+        Some(turn) => renew(sightings, turns, turn, next, sighting),
         None => {
             add(sightings, turns, next, sighting)?;
             Ok(None)
@@ -116,20 +108,8 @@ fn renew(
     };
     sightings.insert(next, again)?;
     sightings.remove(&turn);
-    put_turn(turns, &sighting.packet, next);
+    turns.set(&sighting.packet, next);
     Ok(Some(moment))
-}
-
-/// Puts the turn of a packet in place of an earlier one.
-fn put_turn(turns: &mut Turns, packet: &SharedPacket, turn: u64)
-    requires { IsSome (tree.get shared_cmp turns.old packet.now) }
-    ensures { (other : SharedPacket) → tree.get shared_cmp turns.new other
-        ≡ (if tree.is_at (shared_cmp packet.now) other then Some turn
-        else tree.get shared_cmp turns.old other) }
-{
-    if let Some(place) = turns.get_mut(packet) {
-        *place = turn;
-    }
 }
 
 /// The oldest are forgotten, as many as have to go. Tells what the others count.
@@ -140,14 +120,15 @@ pub(crate) fn forget(
     window: u64,
     now: u64,
 ) -> u64
-    requires { cost ≡ cost_of_all (remembered_in sightings.old.entries) }
+    requires cost { cost ≡ cost_of_all (remembered_in sightings.old.entries) }
+    requires in_turn { StandInTurn sightings.old.entries }
+    requires has_turns { HasTurns turns.old sightings.old.entries }
     ensures left { remembered_in sightings.new.entries
         ≡ kept window now (remembered_in sightings.old.entries) }
     ensures cost { result ≡ cost_of_all (remembered_in sightings.new.entries) }
     ensures in_turn { (next : ℕ) → IsInTurn next sightings.old.entries
         → IsInTurn next sightings.new.entries }
-    ensures has_turns { (next : ℕ) → IsInTurn next sightings.old.entries
-        → HasTurns turns.old sightings.old.entries → HasTurns turns.new sightings.new.entries }
+    ensures has_turns { HasTurns turns.new sightings.new.entries }
 {
     let mut left = cost;
     while must_go(sightings, left, window, now) {
@@ -169,15 +150,16 @@ fn must_go(sightings: &Sightings, cost: u64, window: u64, now: u64) -> bool
 
 /// Forgets the oldest. Tells what it counted.
 fn forget_oldest(sightings: &mut Sightings, turns: &mut Turns) -> u64
+    requires in_turn { StandInTurn sightings.old.entries }
+    requires has_turns { HasTurns turns.old sightings.old.entries }
     ensures left { sightings.new.entries ≡ drop 1 sightings.old.entries }
     ensures cost { cost_of_all (remembered_in sightings.old.entries)
         ≡ result + cost_of_all (remembered_in sightings.new.entries) }
-    ensures has_turns { (next : ℕ) → IsInTurn next sightings.old.entries
-        → HasTurns turns.old sightings.old.entries → HasTurns turns.new sightings.new.entries }
+    ensures has_turns { HasTurns turns.new sightings.new.entries }
 {
     match sightings.pop_first() {
-        Some((_, oldest)) => {
-            turns.remove(&oldest.packet);
+        Some((turn, oldest)) => {
+            turns.remove(&oldest.packet, turn);
             cost_of(&oldest.packet)
         }
         None => 0,

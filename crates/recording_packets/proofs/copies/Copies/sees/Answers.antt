@@ -18,8 +18,8 @@ returns-clause-copy c =
     ∙ ap (λ (p : Ipv4Value). is_copy c.self.inside.window c.args.now p (remembered_in c.self.inside.sightings.entries)) this
     ∙ ap (λ (m : Memory). is_copy m.window c.args.now (view_ipv4 c.args.packet.now) m.remembered) c.self.view_is
 
-pub forget-self-inside-requires : goal.forget-self-inside-requires
-forget-self-inside-requires c =
+pub forget-self-inside-requires-clause-cost : goal.forget-self-inside-requires-clause-cost
+forget-self-inside-requires-clause-cost c =
     let counted = cost_noted (packet_of c.in_ok-packet.packet.owned.value) c.self.inside.next c.args.now c.self.inside.sightings.entries c.self.invariant.in_turn in
     let mine : c.cost_of-cost.result ≡ packet_cost (packet_of c.in_ok-packet.packet.owned.value) = c.cost_of-cost.ensures in
     let seen : c.is_some.result ≡ is_some (moment_of (packet_of c.in_ok-packet.packet.owned.value) c.self.inside.sightings.entries) = c.is_some.ensures ∙ ap is_some c.in_ok-earlier.ensures.earlier in
@@ -39,7 +39,10 @@ invariant_of-self-2 c =
     let in_turn : IsInTurn c.in_ok-following.following c.note.new.sightings.entries = subst (λ n. IsInTurn n c.note.new.sightings.entries) (sym next) c.in_ok-earlier.ensures.in_turn in
     record {
       in_turn = c.forget-self-inside.ensures.in_turn c.in_ok-following.following in_turn;
-      has_turns = c.forget-self-inside.ensures.has_turns c.in_ok-following.following in_turn c.in_ok-earlier.ensures.has_turns;
+      has_turns = c.forget-self-inside.ensures.has_turns;
       counted = c.forget-self-inside.ensures.cost;
       fits = subst (λ n. n ≤ BUDGET) (sym (c.forget-self-inside.ensures.cost ∙ ap cost_of_all c.forget-self-inside.ensures.left)) (kept_fits c.self.inside.window c.args.now (remembered_in c.note.new.sightings.entries));
     }
+
+pub forget-self-inside-requires-clause-in_turn : goal.forget-self-inside-requires-clause-in_turn
+forget-self-inside-requires-clause-in_turn c = (c.self.inside.next + 1, c.in_ok-earlier.ensures.in_turn)

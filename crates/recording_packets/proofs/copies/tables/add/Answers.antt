@@ -25,4 +25,4 @@ returns-clause-ok c = c.in_ok-insert.ensures.entries ∙ insert_last c.args.next
 pub returns-clause-has_turns : goal.returns-clause-has_turns
 returns-clause-has_turns c =
     turns_added c.args.next c.args.sighting c.args.sightings.now.entries c.insert.new.self.entries c.args.turns.now c.insert-2.new.self c.in_ok-packet.packet c.requires.absent (returns-clause-ok c)
-    (ap packet_of c.in_ok-packet.ensures) (ok_is c.insert-2.result (sym c.is_err.ensures.value ∙ c.if-is_err.false) c.insert-2.ensures.updates).0 c.requires.has_turns
+    (ap packet_of c.in_ok-packet.ensures) (ok_is c.insert-2.result (sym c.is_err.ensures.value ∙ c.if-is_err.false) c.insert-2.ensures.ok) c.requires.has_turns

@@ -13,5 +13,9 @@ loop-sightings-preserved c =
           ∙ c.loop-sightings.invariant.left;
       counted = omega (arith, c.forget_oldest-left.ensures.cost, c.loop-sightings.invariant.counted);
       in_turn = λ next h. subst (IsInTurn next) (sym c.forget_oldest-left.ensures.left) (in_turn_without_first next _ (c.loop-sightings.invariant.in_turn next h));
-      has_turns = λ next h has. c.forget_oldest-left.ensures.has_turns next (c.loop-sightings.invariant.in_turn next h) (c.loop-sightings.invariant.has_turns next h has);
+      stands = (
+        c.loop-sightings.invariant.stands.0,
+        subst (IsInTurn c.loop-sightings.invariant.stands.0) (sym c.forget_oldest-left.ensures.left) (in_turn_without_first c.loop-sightings.invariant.stands.0 _ c.loop-sightings.invariant.stands.1),
+      );
+      has_turns = c.forget_oldest-left.ensures.has_turns;
     }

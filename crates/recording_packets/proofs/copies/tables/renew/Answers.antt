@@ -32,7 +32,7 @@ returns-clause-has_turns c =
     let new = renews c.args.next c.args.turn c.args.sighting.moment c.args.sightings.now.entries c.insert.new.self.entries c.remove.new.self.entries
     (packet_of c.args.sighting.packet.owned.value) c.in_ok-packet.packet c.in-Some.earlier.now c.requires.in_turn c.requires.present (sym c.in-Some.ensures.value) c.in_ok-packet.ensures
     c.in_ok-insert.ensures.entries c.remove.ensures.entries in
-    subst (HasTurns c.put_turn.new.turns) (sym new.1) (turns_noted c.args.next _ c.args.sightings.now.entries c.args.turns.now c.put_turn.new.turns c.args.sighting.packet (sym new.0) c.put_turn.ensures c.requires.has_turns)
+    subst (HasTurns c.set.new.self) (sym new.1) (turns_noted c.args.next _ c.args.sightings.now.entries c.args.turns.now c.set.new.self c.args.sighting.packet (sym new.0) c.set.ensures c.requires.has_turns)
 
-pub put_turn-requires : goal.put_turn-requires
-put_turn-requires c = ap is_some (c.requires.has_turns c.args.sighting.packet ∙ c.requires.present)
+pub set-requires : goal.set-requires
+set-requires c = ap is_some (c.requires.has_turns c.args.sighting.packet ∙ c.requires.present)
