@@ -1,4 +1,5 @@
 pub mod SamePackets
+pub mod QueueLemmas
 pub mod SlotLemmas
 pub mod Turns
 pub mod Noted

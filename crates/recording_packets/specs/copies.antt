@@ -4,5 +4,6 @@ pub mod Recordings
 pub mod Examples
 pub mod Marks
 pub mod Owned
+pub mod Queues
 pub mod Slots
 pub mod Tables

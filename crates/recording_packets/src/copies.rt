@@ -10,25 +10,27 @@
 //! - [`BUDGET`] and [`PACKET_COST`]: how much that may be;
 //! - [`laws`]: what the definitions behind the contracts promise.
 //!
-//! How packets are kept. Each stands once, with its payload, at the turn in which it was seen last;
-//! the turns rise, so the oldest stands first. Beside that stand the turns by packet: mostly in a slot
-//! by the packet's digest, where one look finds it. Where another packet has the slot, the turn stands
-//! in the order of packets, and takes O(log n) looks; so no recording can be made against the digests.
+//! How packets are kept. Each stands once, with its payload, at the turn in which it was seen last; the
+//! turns rise, so in their queue the oldest stands first. Beside that stand the turns by packet: mostly
+//! in a slot by the packet's digest, where one look finds it. Where another packet has the slot, the
+//! turn stands in the order of packets, and takes O(log n) looks. So no recording can be made against
+//! the digests.
 ghost use Rattle.std.specs.Prelude.{◌≡◌, [], IfOk, OnOk, OnErr};
 ghost use Rattle.recording.specs.View.{view_ipv4};
 ghost use Rattle.recording_packets.specs.copies.Remembered.{after, is_copy};
 
 pub mod laws;
 mod owned;
+mod sightings;
 mod tables;
 mod turns;
 
 use crate::copies::owned::SharedPacket;
-use crate::copies::tables::{Sighting, Sightings, cost_of, forget, is_recent, note};
+use crate::copies::sightings::{Sighting, Sightings};
+use crate::copies::tables::{cost_of, forget, is_recent, note};
 use crate::copies::turns::Turns;
 use recording::Ipv4Packet;
 use std::alloc::{AllocError, Global};
-use std::collections::BTreeMap;
 use std::marker::Model;
 
 /// The most that is remembered, in bytes: 16 MiB.
@@ -45,7 +47,6 @@ pub struct Copies {
     window: u64,
     sightings: Sightings,
     turns: Turns,
-    next: u64,
     cost: u64,
 }
 
@@ -57,7 +58,7 @@ impl Model for Copies {
 
     ghost view = { λ c. memory_of c.window c.sightings.entries };
 
-    ghost invariant = { λ c. IsKept c.sightings.entries c.turns c.next c.cost };
+    ghost invariant = { λ c. IsKept c.sightings c.turns c.cost };
 }
 
 impl Copies {
@@ -68,9 +69,8 @@ impl Copies {
         Copies {
             alloc,
             window,
-            sightings: BTreeMap::new(alloc),
+            sightings: Sightings::new(alloc),
             turns: Turns::new(alloc),
-            next: 0,
             cost: 0,
         }
     }
@@ -87,16 +87,13 @@ impl Copies {
         }) }
         ensures err { OnErr result (self.new ≡ self.old) }
     {
-        // No recording has 2^64 packets.
-        let following = self.next.checked_add(1).ok_or(AllocError)?;
         let packet = SharedPacket::new(self.alloc, packet)?;
         let cost = cost_of(&packet);
         let sighting = Sighting {
             moment: now,
             packet,
         };
-        let earlier = note(&mut self.sightings, &mut self.turns, self.next, sighting)?;
-        self.next = following;
+        let earlier = note(&mut self.sightings, &mut self.turns, sighting)?;
         let cost = if earlier.is_some() {
             self.cost
         } else {

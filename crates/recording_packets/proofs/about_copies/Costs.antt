@@ -1,14 +1,14 @@
 -- What is remembered counts, and what has to go.
 use Rattle.std.proofs.Common.{◌≡◌, ℕ, ◌+◌, ◌-◌, ◌≤◌, nat_lt, nat_le, Bool, true, false, not, cond, ◌&&◌, ◌||◌, List, [], ◌∷◌, ◌++◌, drop, None, Some, refl, ap, sym, ◌∙◌, arith, lit≤}
 use Rattle.std.specs.List.{slice_get}
-use Rattle.std.specs.Option.{is_some}
+use Rattle.std.specs.Option.{is_some, option_map}
 use Rattle.std.proofs.lemmas.List.Sums.{sum_by-append}
 use Rattle.std.proofs.lemmas.Bool.Decides.{nat_tests}
 use Rattle.recording.specs.Packets.{Ipv4Value}
 use Rattle.recording_packets.specs.copies.Remembered.{SightingValue, cost_of_all, has_to_go, is_copy, is_same, is_within, kept, others, packet_cost}
 use Rattle.recording_packets.specs.copies.Tables.{IsInTurn, moment_of, remembered_in, turn_of, value_of, was_within}
 use Rattle.recording_packets.specs.declared.copies.TheConstants.{BUDGET}
-use Rattle.recording_packets.specs.declared.copies.tables.Sighting.{Sighting}
+use Rattle.recording_packets.specs.declared.copies.sightings.Sighting.{Sighting}
 use Rattle.recording_packets.proofs.about_copies.SamePackets.{or_false, same_is}
 use Rattle.recording_packets.proofs.about_copies.Turns.{none_after, packet_at}
 use Rattle.recording_packets.proofs.about_copies.Noted.{values_without, without_none}
@@ -22,12 +22,12 @@ goes window now gap s later is = ap (λ b. b || nat_lt BUDGET (cost_of_all (s �
     test : gap ≡ now - s.moment → not (nat_le (now - s.moment) window) ≡ nat_lt window gap
     test is = rw is (grind (arith, nat_tests))
 
-pub goes_old : (window now gap cost : ℕ) (es : List (ℕ × Sighting)) (k : ℕ) (s : Sighting) → slice_get es 0 ≡ Some (k, s) → gap ≡ now - s.moment → cost ≡ cost_of_all (remembered_in es)
+pub goes_old : (window now gap cost : ℕ) (es : List (ℕ × Sighting)) (s : Sighting) → Some s ≡ option_map (λ (e : ℕ × Sighting). e.1) (slice_get es 0) → gap ≡ now - s.moment → cost ≡ cost_of_all (remembered_in es)
     → (nat_lt window gap || nat_lt BUDGET cost) ≡ has_to_go window now (remembered_in es)
-goes_old window now gap cost [] k s first is counts = cc
-goes_old window now gap cost (e ∷ es) k s first is counts =
-    let one : e ≡ (k, s) = cc in
-    rw counts (sym (goes window now gap (value_of e.1) (remembered_in es) (is ∙ ap (λ (x : ℕ × Sighting). now - x.1.moment) (sym one))))
+goes_old window now gap cost [] s first is counts = cc
+goes_old window now gap cost (e ∷ es) s first is counts =
+    let one : e.1 ≡ s = cc in
+    rw counts (sym (goes window now gap (value_of e.1) (remembered_in es) (is ∙ ap (λ (x : Sighting). now - x.moment) (sym one))))
 
 -- ---- the oldest goes
 

@@ -1,7 +1,7 @@
 -- Entries after a packet was noted: those of the other packets, and it as the youngest.
 use Rattle.std.proofs.Common.{◌≡◌, ℕ, ◌+◌, ◌<◌, Bool, true, false, not, cond, List, [], ◌∷◌, ◌++◌, Option, None, Some, refl, ap, sym, subst, ◌∙◌, arith}
 use Rattle.std.specs.Map.{lookup, remove_entry}
-use Rattle.std.specs.BTreeMap.{insert_entry, is_at}
+use Rattle.std.specs.BTreeMap.{is_at}
 use Rattle.std.specs.Ordering.{nat_cmp, is_eq}
 use Rattle.std.proofs.lemmas.Bool.Decides.{nat_tests}
 use Rattle.recording.specs.Packets.{Ipv4Value}
@@ -10,10 +10,10 @@ use Rattle.recording_packets.specs.copies.Owned.{packet_of}
 use Rattle.recording_packets.specs.declared.copies.owned.SharedPacket.{SharedPacket}
 use Rattle.recording_packets.specs.copies.Slots.{turn_in}
 use Rattle.recording_packets.specs.copies.Tables.{HasTurns, IsInTurn, StandsBefore, remembered_in, turn_of, value_of}
-use Rattle.recording_packets.specs.declared.copies.tables.Sighting.{Sighting}
+use Rattle.recording_packets.specs.declared.copies.sightings.Sighting.{Sighting}
 use Rattle.recording_packets.specs.declared.copies.turns.Turns.{Turns}
 use Rattle.recording_packets.proofs.about_copies.SamePackets.{same_is, same_self}
-use Rattle.recording_packets.proofs.about_copies.Turns.{found_at, insert_last, packet_at, without, not_at, own_turn, some_is, other_is, none_after, turn_after, turn_below}
+use Rattle.recording_packets.proofs.about_copies.Turns.{found_at, packet_at, without, not_at, own_turn, some_is, other_is, none_after, turn_after, turn_below}
 
 abbrev pub noted : ℕ → Sighting → List (ℕ × Sighting) → List (ℕ × Sighting)
 noted next s es = without (packet_of s.packet.owned.value) es ++ (next, s) ∷ []
@@ -195,6 +195,11 @@ in_turn_last next s (e ∷ es) h = cases (is_same (packet_at e) (packet_of s.pac
 pub in_turn_noted : (next : ℕ) (s : Sighting) (es : List (ℕ × Sighting)) → IsInTurn next es → IsInTurn (next + 1) (noted next s es)
 in_turn_noted = in_turn_last
 
+-- a turn more
+pub in_turn_more : (n : ℕ) (es : List (ℕ × Sighting)) → IsInTurn n es → IsInTurn (n + 1) es
+in_turn_more n [] h = tt
+in_turn_more n (e ∷ es) h = (omega (arith, h.0), h.1, in_turn_more n es h.2)
+
 -- ---- in the tables
 
 -- the turns after a packet was noted
@@ -210,13 +215,12 @@ turns_noted next s es turns turns' k same updates has q =
 -- the entries after a packet was noted that stood at a turn
 pub renews : (next t moment : ℕ) (es more left : List (ℕ × Sighting)) (p : Ipv4Value) (k : SharedPacket) (earlier : Sighting) → IsInTurn next es → turn_of p es ≡ Some t
     → lookup (is_at (nat_cmp t)) es ≡ Some earlier → k.owned.value ≡ earlier.packet.owned.value
-    → more ≡ insert_entry nat_cmp es next (record { moment = moment; packet = k }) → left ≡ remove_entry (is_at (nat_cmp t)) more
+    → more ≡ es ++ (next, record { moment = moment; packet = k }) ∷ [] → left ≡ remove_entry (is_at (nat_cmp t)) more
     → (packet_of k.owned.value ≡ p) × (left ≡ noted next (record { moment = moment; packet = k }) es)
 renews next t moment es more left p k earlier h is found clone inserts removes =
     let same : packet_of k.owned.value ≡ p = ap packet_of clone ∙ (found_at next t es p earlier h is found).0 in (
       same,
-      removes ∙ ap (remove_entry (is_at (nat_cmp t))) (inserts ∙ insert_last next es (record { moment = moment; packet = k }) h)
-          ∙ renewed next t es p (record { moment = moment; packet = k }) same h is,
+      removes ∙ ap (remove_entry (is_at (nat_cmp t))) inserts ∙ renewed next t es p (record { moment = moment; packet = k }) same h is,
     )
 
 pub turns_added : (next : ℕ) (s : Sighting) (es more : List (ℕ × Sighting)) (turns turns' : Turns) (k : SharedPacket) → turn_of (packet_of s.packet.owned.value) es ≡ None

@@ -60,6 +60,10 @@ same_turned a b = cases (is_same a b) refl (is_same b a) refl
     cases false p true q = is_same_by a b (sym (same_is b a q)) ∙ sym q
     cases false p false q = p ∙ sym q
 
+-- the marks of two that are the same
+pub same_mark : (a b : SharedPacket) → is_same (packet_of a.owned.value) (packet_of b.owned.value) ≡ true → a.mark ≡ b.mark
+same_mark a b h = a.marked ∙ ap mark_of (same_is (packet_of a.owned.value) (packet_of b.owned.value) h) ∙ sym b.marked
+
 -- ---- by their order
 
 both_tie : (x y : Ordering) (p q : Bool) → is_eq x ≡ p → is_eq y ≡ q → is_eq (ordering_then x y) ≡ (p && q)

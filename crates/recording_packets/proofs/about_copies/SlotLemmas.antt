@@ -7,7 +7,6 @@ use Rattle.std.specs.BTreeMap.{is_at}
 use Rattle.std.proofs.lemmas.List.{get_or-set_same, get_or-set_other}
 use Rattle.std.proofs.lemmas.Bool.{eqb-false, eqb-true, eq-eqb, false_from_ne_true}
 use Rattle.recording.specs.Packets.{Ipv4Value}
-use Rattle.recording_packets.specs.copies.Marks.{mark_of}
 use Rattle.recording_packets.specs.copies.Remembered.{is_same}
 use Rattle.recording_packets.specs.copies.Owned.{packet_of}
 use Rattle.recording_packets.specs.copies.Slots.{is_place, place_in, shared_cmp, slot_of, turn_at, turn_in, with_turn}
@@ -15,14 +14,11 @@ use Rattle.recording_packets.specs.declared.copies.owned.SharedPacket.{SharedPac
 use Rattle.recording_packets.specs.declared.copies.turns.Place.{Place}
 use Rattle.recording_packets.specs.declared.copies.turns.Turns.{Turns}
 use Rattle.recording_packets.specs.declared.copies.turns.TheConstants.{SLOT_WIDTH}
-use Rattle.recording_packets.proofs.about_copies.SamePackets.{both, same_is, same_self, is_same_by, tie_is}
+use Rattle.recording_packets.proofs.about_copies.SamePackets.{both, same_is, same_mark, same_self, is_same_by, tie_is}
 
 -- nothing tells two packets apart
 abbrev pub same : SharedPacket → SharedPacket → Bool
 same a b = is_same (packet_of a.owned.value) (packet_of b.owned.value)
-
-pub same_mark : (a b : SharedPacket) → same a b ≡ true → a.mark ≡ b.mark
-same_mark a b h = a.marked ∙ ap mark_of (same_is (packet_of a.owned.value) (packet_of b.owned.value) h) ∙ sym b.marked
 
 same_slot : (a b : SharedPacket) → same a b ≡ true → slot_of a ≡ slot_of b
 same_slot a b h = ap (λ n. n / SLOT_WIDTH) (same_mark a b h)

@@ -12,7 +12,7 @@ use Rattle.recording_packets.specs.copies.Owned.{packet_of}
 use Rattle.recording_packets.specs.declared.copies.owned.SharedPacket.{SharedPacket}
 use Rattle.recording_packets.specs.copies.Slots.{turn_in}
 use Rattle.recording_packets.specs.copies.Tables.{HasTurns, IsInTurn, StandsBefore, moment_of, turn_of}
-use Rattle.recording_packets.specs.declared.copies.tables.Sighting.{Sighting}
+use Rattle.recording_packets.specs.declared.copies.sightings.Sighting.{Sighting}
 use Rattle.recording_packets.specs.declared.copies.turns.Turns.{Turns}
 use Rattle.recording_packets.proofs.about_copies.SamePackets.{same_is, same_self, same_turned}
 

@@ -1,15 +1,14 @@
 -- Digests of packets.
-use Rattle.std.specs.Prelude.{ℕ, ◌+◌, ◌-◌, ◌*◌, ◌%◌, ◌^◌, nat_lt, if◌then◌else◌, List, ◌∷◌, [], length, slice_index, bit_xor}
+use Rattle.std.specs.Prelude.{ℕ, ◌+◌, ◌-◌, ◌*◌, ◌%◌, ◌^◌, nat_lt, if◌then◌else◌, List, ◌∷◌, [], drop, length, slice_index, bit_xor}
 use Rattle.std.specs.Int.{w32, w64, from_be_bytes}
 use Rattle.recording.specs.Packets.{Ipv4Value}
 
--- eight bytes of a payload as a number, or 0 where it ends before
-abbrev pub word_at : List ℕ → ℕ → ℕ
-word_at payload at =
-    if nat_lt (length payload) (at + 8) then 0
-    else from_be_bytes w64 (slice_index payload at ∷ slice_index payload (at + 1) ∷ slice_index payload (at + 2)
-    ∷ slice_index payload (at + 3) ∷ slice_index payload (at + 4) ∷ slice_index payload (at + 5)
-    ∷ slice_index payload (at + 6) ∷ slice_index payload (at + 7) ∷ [])
+-- the first eight bytes as a number, or 0 where there are fewer
+abbrev pub first_word : List ℕ → ℕ
+first_word bytes =
+    if nat_lt (length bytes) 8 then 0
+    else from_be_bytes w64 (slice_index bytes 0 ∷ slice_index bytes 1 ∷ slice_index bytes 2 ∷ slice_index bytes 3
+    ∷ slice_index bytes 4 ∷ slice_index bytes 5 ∷ slice_index bytes 6 ∷ slice_index bytes 7 ∷ [])
 
 -- a digest, and a word more
 abbrev pub mixed : ℕ → ℕ → ℕ
@@ -19,5 +18,5 @@ mixed mark word = (bit_xor mark word * 0x9e37_79b9_7f4a_7c15) % 2 ^ 64
 abbrev pub mark_of : Ipv4Value → ℕ
 mark_of p =
     mixed (mixed (mixed (mixed (mixed (mixed (p.identification * 65536 + p.fragment) (from_be_bytes w32 p.source))
-    (word_at p.payload 0)) (word_at p.payload 8)) (word_at p.payload 16)) (word_at p.payload 24))
-    (word_at p.payload (length p.payload - 8))
+    (first_word p.payload)) (first_word (drop 8 p.payload))) (first_word (drop 16 p.payload))) (first_word (drop 24 p.payload)))
+    (first_word (drop (length p.payload - 8) p.payload))

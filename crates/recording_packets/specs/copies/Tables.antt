@@ -3,10 +3,11 @@ use Rattle.std.specs.Prelude.{◌≡◌, ⊤, ℕ, ◌<◌, ◌≤◌, Bool, fal
 use Rattle.recording.specs.Packets.{Ipv4Value}
 use Rattle.recording_packets.specs.copies.Remembered.{Memory, SightingValue, cost_of_all, is_same, is_within}
 use Rattle.recording_packets.specs.copies.Owned.{packet_of}
+use Rattle.recording_packets.specs.copies.Queues.{Row}
 use Rattle.recording_packets.specs.copies.Slots.{turn_in}
 use Rattle.recording_packets.specs.declared.copies.owned.SharedPacket.{SharedPacket}
 use Rattle.recording_packets.specs.declared.copies.TheConstants.{BUDGET}
-use Rattle.recording_packets.specs.declared.copies.tables.Sighting.{Sighting}
+use Rattle.recording_packets.specs.declared.copies.sightings.Sighting.{Sighting}
 use Rattle.recording_packets.specs.declared.copies.turns.Turns.{Turns}
 
 -- a sighting as a value
@@ -48,10 +49,6 @@ abbrev pub IsInTurn : ℕ → List (ℕ × Sighting) → Type 0
 IsInTurn next [] = ⊤
 IsInTurn next (e ∷ es) = (e.0 < next) × StandsBefore e es × IsInTurn next es
 
--- the turns rise, and no packet stands twice
-abbrev pub StandInTurn : List (ℕ × Sighting) → Type 0
-StandInTurn entries = (next : ℕ) × IsInTurn next entries
-
 -- the turns stand under their packets
 abbrev pub HasTurns : Turns → List (ℕ × Sighting) → Type 0
 HasTurns turns entries =
@@ -62,8 +59,8 @@ abbrev pub memory_of : ℕ → List (ℕ × Sighting) → Memory
 memory_of window entries = record { window = window; remembered = remembered_in entries }
 
 -- the tables agree, the turns are below the next one, and what is remembered is counted and within the budget
-pub record IsKept (entries : List (ℕ × Sighting)) (turns : Turns) (next cost : ℕ) : Type 0 where
-  pub in_turn : IsInTurn next entries
-  pub has_turns : HasTurns turns entries
-  pub counted : cost ≡ cost_of_all (remembered_in entries)
+pub record IsKept (sightings : Row) (turns : Turns) (cost : ℕ) : Type 0 where
+  pub in_turn : IsInTurn sightings.next sightings.entries
+  pub has_turns : HasTurns turns sightings.entries
+  pub counted : cost ≡ cost_of_all (remembered_in sightings.entries)
   pub fits : cost ≤ BUDGET

@@ -1,7 +1,7 @@
 //! Packets that are remembered.
-ghost use Rattle.std.specs.Prelude.{◌≡◌, IfOk};
+ghost use Rattle.std.specs.Prelude.{◌≡◌, IfOk, drop};
 ghost use Rattle.recording.specs.View.{view_ipv4};
-ghost use Rattle.recording_packets.specs.copies.Marks.{mark_of, mixed, word_at};
+ghost use Rattle.recording_packets.specs.copies.Marks.{first_word, mark_of, mixed};
 ghost use Rattle.recording_packets.specs.copies.Owned.{packet_of};
 ghost use Rattle.recording_packets.specs.copies.Remembered.{is_same};
 
@@ -87,7 +87,7 @@ fn mark_of(packet: &Ipv4Packet) -> u64
     let payload = packet.payload;
     let header = u64::from(packet.identification) * 0x1_0000 + u64::from(packet.fragment);
     let mark = mixed(header, u64::from(u32::from_be_bytes(packet.source)));
-    let mark = mixed(mark, word_at(payload, 0));
+    let mark = mixed(mark, first_word(payload));
     let mark = mixed(mark, word_at(payload, 8));
     let mark = mixed(mark, word_at(payload, 16));
     let mark = mixed(mark, word_at(payload, 24));
@@ -103,19 +103,22 @@ fn mixed(mark: u64, word: u64) -> u64
 
 /// Eight bytes of a payload as a number, or 0 where it ends before.
 fn word_at(payload: &[u8], at: usize) -> u64
-    ensures { result ≡ word_at payload.now at }
+    ensures { result ≡ first_word (drop at payload.now) }
 {
-    if payload.len() < 8 || at > payload.len() - 8 {
+    if at > payload.len() {
+        return 0;
+    }
+    first_word(&payload[at..])
+}
+
+/// The first eight bytes as a number, or 0 where there are fewer.
+fn first_word(bytes: &[u8]) -> u64
+    ensures { result ≡ first_word bytes.now }
+{
+    if bytes.len() < 8 {
         return 0;
     }
     u64::from_be_bytes([
-        payload[at],
-        payload[at + 1],
-        payload[at + 2],
-        payload[at + 3],
-        payload[at + 4],
-        payload[at + 5],
-        payload[at + 6],
-        payload[at + 7],
+        bytes[0], bytes[1], bytes[2], bytes[3], bytes[4], bytes[5], bytes[6], bytes[7],
     ])
 }

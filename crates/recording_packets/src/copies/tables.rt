@@ -1,75 +1,61 @@
 //! What is remembered, by the turn of each packet, and the turns by packet.
-ghost use Rattle.std.specs.Prelude.{◌≡◌, ◌+◌, ℕ, ◌∷◌, ◌++◌, [], drop};
+ghost use Rattle.std.specs.Prelude.{◌≡◌, ◌+◌, ◌∷◌, ◌++◌, [], drop};
 ghost use Rattle.std.specs.Prelude.{Some, None, IfOk, OnOk, OnErr};
 ghost use Rattle.recording_packets.specs.copies.Remembered.{others, kept, has_to_go};
 ghost use Rattle.recording_packets.specs.copies.Remembered.{cost_of_all, packet_cost};
 ghost use Rattle.recording_packets.specs.copies.Owned.{packet_of};
-ghost use Rattle.recording_packets.specs.copies.Tables.{HasTurns, IsInTurn, StandInTurn, moment_of, turn_of};
+ghost use Rattle.recording_packets.specs.copies.Tables.{HasTurns, IsInTurn, moment_of, turn_of};
 ghost use Rattle.recording_packets.specs.copies.Tables.{remembered_in, value_of, was_within};
 
 use crate::copies::owned::SharedPacket;
+use crate::copies::sightings::{Sighting, Sightings};
 use crate::copies::turns::Turns;
 use crate::copies::{BUDGET, PACKET_COST};
 use std::alloc::AllocError;
-use std::collections::BTreeMap;
-
-/// A packet that was seen, and the moment, in nanoseconds, at which it was seen last.
-#[derive(Drop)]
-pub(crate) struct Sighting {
-    pub(crate) moment: u64,
-    pub(crate) packet: SharedPacket,
-}
-
-/// The sightings by turn: the turn of each is above those before it.
-pub(crate) type Sightings = BTreeMap<u64, Sighting>;
 
 /// Remembers a packet as the youngest, at the next turn. Tells the moment at which it was seen
 /// last, if it was remembered. What is refused because memory ran out leaves all as it was.
 pub(crate) fn note(
     sightings: &mut Sightings,
     turns: &mut Turns,
-    next: u64,
     sighting: Sighting,
 ) -> Result<Option<u64>, AllocError>
-    requires in_turn { IsInTurn next sightings.old.entries }
+    requires in_turn { IsInTurn sightings.old.next sightings.old.entries }
     requires has_turns { HasTurns turns.old sightings.old.entries }
     ensures ok { OnOk result (remembered_in sightings.new.entries
         ≡ others (packet_of sighting.packet.owned.value) (remembered_in sightings.old.entries)
         ++ value_of sighting ∷ []) }
     ensures earlier { IfOk result (λ earlier. earlier
         ≡ moment_of (packet_of sighting.packet.owned.value) sightings.old.entries) }
-    ensures in_turn { OnOk result (IsInTurn (next + 1) sightings.new.entries) }
+    ensures in_turn { IsInTurn sightings.new.next sightings.new.entries }
     ensures err { OnErr result (sightings.new.entries ≡ sightings.old.entries) }
     ensures has_turns { HasTurns turns.new sightings.new.entries }
 {
     match turns.get(&sighting.packet) {
-        Some(turn) => renew(sightings, turns, turn, next, sighting),
+        Some(turn) => renew(sightings, turns, turn, sighting),
         None => {
-            add(sightings, turns, next, sighting)?;
+            add(sightings, turns, sighting)?;
             Ok(None)
         }
     }
 }
 
 /// Remembers a packet that was not remembered.
-fn add(
-    sightings: &mut Sightings,
-    turns: &mut Turns,
-    next: u64,
-    sighting: Sighting,
-) -> Result<(), AllocError>
-    requires in_turn { IsInTurn next sightings.old.entries }
+fn add(sightings: &mut Sightings, turns: &mut Turns, sighting: Sighting) -> Result<(), AllocError>
+    requires in_turn { IsInTurn sightings.old.next sightings.old.entries }
     requires has_turns { HasTurns turns.old sightings.old.entries }
     requires absent { turn_of (packet_of sighting.packet.owned.value) sightings.old.entries ≡ None }
     ensures ok { OnOk result (sightings.new.entries
-        ≡ sightings.old.entries ++ (next, sighting) ∷ []) }
+        ≡ sightings.old.entries ++ (sightings.old.next, sighting) ∷ []) }
+    ensures in_turn { IsInTurn sightings.new.next sightings.new.entries }
     ensures err { OnErr result (sightings.new.entries ≡ sightings.old.entries) }
     ensures has_turns { HasTurns turns.new sightings.new.entries }
 {
     let packet = sighting.packet.share()?;
-    sightings.insert(next, sighting)?;
+    let next = sightings.next();
+    sightings.push(sighting)?;
     if turns.insert(packet, next).is_err() {
-        sightings.remove(&next);
+        sightings.remove(next);
         return Err(AllocError);
     }
     Ok(())
@@ -80,10 +66,9 @@ fn renew(
     sightings: &mut Sightings,
     turns: &mut Turns,
     turn: u64,
-    next: u64,
     sighting: Sighting,
 ) -> Result<Option<u64>, AllocError>
-    requires in_turn { IsInTurn next sightings.old.entries }
+    requires in_turn { IsInTurn sightings.old.next sightings.old.entries }
     requires has_turns { HasTurns turns.old sightings.old.entries }
     requires present { turn_of (packet_of sighting.packet.owned.value) sightings.old.entries
         ≡ Some turn }
@@ -92,11 +77,11 @@ fn renew(
         ++ value_of sighting ∷ []) }
     ensures earlier { IfOk result (λ earlier. earlier
         ≡ moment_of (packet_of sighting.packet.owned.value) sightings.old.entries) }
-    ensures in_turn { OnOk result (IsInTurn (next + 1) sightings.new.entries) }
+    ensures in_turn { IsInTurn sightings.new.next sightings.new.entries }
     ensures err { OnErr result (sightings.new.entries ≡ sightings.old.entries) }
     ensures has_turns { HasTurns turns.new sightings.new.entries }
 {
-    let Some(earlier) = sightings.get(&turn) else {
+    let Some(earlier) = sightings.get(turn) else {
         // Never: a turn that stands by its packet has a sighting.
         return Err(AllocError);
     };
@@ -106,8 +91,9 @@ fn renew(
         moment: sighting.moment,
         packet,
     };
-    sightings.insert(next, again)?;
-    sightings.remove(&turn);
+    let next = sightings.next();
+    sightings.push(again)?;
+    sightings.remove(turn);
     turns.set(&sighting.packet, next);
     Ok(Some(moment))
 }
@@ -121,13 +107,12 @@ pub(crate) fn forget(
     now: u64,
 ) -> u64
     requires cost { cost ≡ cost_of_all (remembered_in sightings.old.entries) }
-    requires in_turn { StandInTurn sightings.old.entries }
+    requires in_turn { IsInTurn sightings.old.next sightings.old.entries }
     requires has_turns { HasTurns turns.old sightings.old.entries }
     ensures left { remembered_in sightings.new.entries
         ≡ kept window now (remembered_in sightings.old.entries) }
     ensures cost { result ≡ cost_of_all (remembered_in sightings.new.entries) }
-    ensures in_turn { (next : ℕ) → IsInTurn next sightings.old.entries
-        → IsInTurn next sightings.new.entries }
+    ensures in_turn { IsInTurn sightings.new.next sightings.new.entries }
     ensures has_turns { HasTurns turns.new sightings.new.entries }
 {
     let mut left = cost;
@@ -142,17 +127,18 @@ fn must_go(sightings: &Sightings, cost: u64, window: u64, now: u64) -> bool
     requires { cost ≡ cost_of_all (remembered_in sightings.now.entries) }
     ensures { result ≡ has_to_go window now (remembered_in sightings.now.entries) }
 {
-    match sightings.first_key_value() {
-        Some((_, oldest)) => now.saturating_sub(oldest.moment) > window || cost > BUDGET,
+    match sightings.first() {
+        Some(oldest) => now.saturating_sub(oldest.moment) > window || cost > BUDGET,
         None => false,
     }
 }
 
 /// Forgets the oldest. Tells what it counted.
 fn forget_oldest(sightings: &mut Sightings, turns: &mut Turns) -> u64
-    requires in_turn { StandInTurn sightings.old.entries }
+    requires in_turn { IsInTurn sightings.old.next sightings.old.entries }
     requires has_turns { HasTurns turns.old sightings.old.entries }
     ensures left { sightings.new.entries ≡ drop 1 sightings.old.entries }
+    ensures next { sightings.new.next ≡ sightings.old.next }
     ensures cost { cost_of_all (remembered_in sightings.old.entries)
         ≡ result + cost_of_all (remembered_in sightings.new.entries) }
     ensures has_turns { HasTurns turns.new sightings.new.entries }

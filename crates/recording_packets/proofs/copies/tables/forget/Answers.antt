@@ -12,10 +12,8 @@ loop-sightings-preserved c =
           ∙ kept_without c.args.window c.args.now c.loop-sightings.sightings.entries (sym c.must_go.ensures ∙ c.loop-sightings-test.true)
           ∙ c.loop-sightings.invariant.left;
       counted = omega (arith, c.forget_oldest-left.ensures.cost, c.loop-sightings.invariant.counted);
-      in_turn = λ next h. subst (IsInTurn next) (sym c.forget_oldest-left.ensures.left) (in_turn_without_first next _ (c.loop-sightings.invariant.in_turn next h));
-      stands = (
-        c.loop-sightings.invariant.stands.0,
-        subst (IsInTurn c.loop-sightings.invariant.stands.0) (sym c.forget_oldest-left.ensures.left) (in_turn_without_first c.loop-sightings.invariant.stands.0 _ c.loop-sightings.invariant.stands.1),
-      );
+      in_turn =
+          subst (λ n. IsInTurn n c.forget_oldest-left.new.sightings.entries) (sym c.forget_oldest-left.ensures.next)
+          (subst (IsInTurn c.loop-sightings.sightings.next) (sym c.forget_oldest-left.ensures.left) (in_turn_without_first c.loop-sightings.sightings.next _ c.loop-sightings.invariant.in_turn));
       has_turns = c.forget_oldest-left.ensures.has_turns;
     }

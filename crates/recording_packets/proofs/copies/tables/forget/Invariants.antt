@@ -1,6 +1,6 @@
-use Rattle.std.proofs.Common.{◌≡◌, ℕ, length}
+use Rattle.std.proofs.Common.{◌≡◌, length}
 use Rattle.recording_packets.specs.copies.Remembered.{kept, cost_of_all}
-use Rattle.recording_packets.specs.copies.Tables.{HasTurns, IsInTurn, StandInTurn, remembered_in}
+use Rattle.recording_packets.specs.copies.Tables.{HasTurns, IsInTurn, remembered_in}
 use Rattle.recording_packets.proofs.copies.tables.forget.Given as goal
 
 abbrev pub invariant-loop-sightings : goal.invariant-loop-sightings
@@ -8,8 +8,7 @@ invariant-loop-sightings l =
     record {
       left : kept l.window l.now (remembered_in l.sightings.entries) ≡ kept l.window l.now (remembered_in l.initial.sightings.entries);
       counted : l.left ≡ cost_of_all (remembered_in l.sightings.entries);
-      in_turn : (next : ℕ) → IsInTurn next l.initial.sightings.entries → IsInTurn next l.sightings.entries;
-      stands : StandInTurn l.sightings.entries;
+      in_turn : IsInTurn l.sightings.next l.sightings.entries;
       has_turns : HasTurns l.turns l.sightings.entries;
     }
 

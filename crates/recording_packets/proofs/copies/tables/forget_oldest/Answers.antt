@@ -3,11 +3,11 @@ use Rattle.recording_packets.proofs.copies.tables.forget_oldest.Goals as goal
 
 pub returns-in-Some-clause-has_turns : goal.returns-in-Some-clause-has_turns
 returns-in-Some-clause-has_turns c =
-    forgotten c.requires.in_turn.0 c.args.sightings.now.entries c.pop_first.new.self.entries c.args.turns.now c.remove.new.self _ _ c.in-Some.ensures.removal c.remove.ensures c.requires.in_turn.1 c.requires.has_turns
+    forgotten c.args.sightings.now.next c.args.sightings.now.entries c.pop_first.new.self.entries c.args.turns.now c.remove.new.self _ _ c.in-Some.ensures.first c.remove.ensures c.requires.in_turn c.requires.has_turns
 
 pub remove-requires-clause-present : goal.remove-requires-clause-present
-remove-requires-clause-present c = first_turn c.args.sightings.now.entries c.pop_first.new.self.entries c.args.turns.now _ _ c.in-Some.ensures.removal c.requires.has_turns
+remove-requires-clause-present c = first_turn c.args.sightings.now.entries c.pop_first.new.self.entries c.args.turns.now _ _ c.in-Some.ensures.first c.requires.has_turns
 
 pub remove-requires-clause-alone : goal.remove-requires-clause-alone
 remove-requires-clause-alone c =
-    first_alone c.requires.in_turn.0 c.args.sightings.now.entries c.pop_first.new.self.entries c.args.turns.now _ _ c.in-Some.ensures.removal c.requires.in_turn.1 c.requires.has_turns
+    first_alone c.args.sightings.now.next c.args.sightings.now.entries c.pop_first.new.self.entries c.args.turns.now _ _ c.in-Some.ensures.first c.requires.in_turn c.requires.has_turns
