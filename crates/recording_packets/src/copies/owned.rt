@@ -79,7 +79,7 @@ impl SharedPacket {
     }
 }
 
-/// A digest of a packet: of its header, and of the first 32 and the last 8 bytes of its payload. Packets
+/// A digest of a packet: of its header, and of the first 24 and the last 8 bytes of its payload. Packets
 /// can be made which have one digest.
 fn mark_of(packet: &Ipv4Packet) -> u64
     ensures { result ≡ mark_of (view_ipv4 packet.now) }
@@ -90,7 +90,6 @@ fn mark_of(packet: &Ipv4Packet) -> u64
     let mark = mixed(mark, first_word(payload));
     let mark = mixed(mark, word_at(payload, 8));
     let mark = mixed(mark, word_at(payload, 16));
-    let mark = mixed(mark, word_at(payload, 24));
     mixed(mark, word_at(payload, payload.len().saturating_sub(8)))
 }
 
@@ -118,7 +117,7 @@ fn first_word(bytes: &[u8]) -> u64
     if bytes.len() < 8 {
         return 0;
     }
-    u64::from_be_bytes([
+    u64::from_le_bytes([
         bytes[0], bytes[1], bytes[2], bytes[3], bytes[4], bytes[5], bytes[6], bytes[7],
     ])
 }

@@ -17,11 +17,11 @@ use crate::copies::owned::SharedPacket;
 use std::alloc::{AllocError, Global};
 use std::collections::BTreeMap;
 
-/// How many slots there are.
-pub(crate) const SLOTS: u64 = 16_384;
+/// How many slots there are: as many as packets are remembered at most.
+pub(crate) const SLOTS: u64 = 65_536;
 
 /// How many marks have one slot: 2^64 of them have the slots together.
-pub(crate) const SLOT_WIDTH: u64 = 1_125_899_906_842_624;
+pub(crate) const SLOT_WIDTH: u64 = 281_474_976_710_656;
 
 /// The turn of a packet.
 #[derive(Drop)]
