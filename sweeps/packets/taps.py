@@ -11,9 +11,11 @@ that `model.py` tells of the packets that `reader.py` reads, with the lines that
 - Each packet is of one interface, of one VLAN, and of one span of `--from` and `--until`: the lines of all are parted.
 - Two files are what one is that has the packets of both, of either format, and on standard input.
 - Where each packet comes twice at once, `--dedup` leaves the lines of the one that came before.
+- With `--json` each line has one object, of which `sweeps/json/plain.py` makes the line again.
 - A file that is not there ends a call before its first line, and a folder where it is reached.
 """
 import importlib.util
+import json
 import os
 import random
 import re
@@ -24,11 +26,12 @@ import tempfile
 from concurrent.futures import ThreadPoolExecutor
 
 HERE = os.path.dirname(os.path.abspath(__file__))
-sys.path[:0] = [HERE, f"{HERE}/../audit"]
+sys.path[:0] = [HERE, f"{HERE}/../audit", f"{HERE}/../json"]
 import model
 import reader
 import seen
 import wire
+from plain import PLAIN
 
 AUDIT = importlib.util.spec_from_file_location("audit_model", f"{HERE}/../audit/model.py")
 audit_model = importlib.util.module_from_spec(AUDIT)
@@ -136,18 +139,24 @@ class Case:
             yield from (f"{head}{number} {line}\n" for line in lines_of[data])
 
     def run(self, program, room):
-        """Calls the program in a folder of its own."""
+        """Calls the program, and calls it for objects, of which it makes the plain lines again."""
+        self.came = self.call(program, room)
+        status, text, error = self.call(program, room, "--json")
+        command = self.words.partition(" ")[0]
+        self.objects = status, "".join(f"{PLAIN[command](json.loads(line))}\n" for line in text.splitlines()), error
+        return self
+
+    def call(self, program, room, *more):
+        """What comes of a call in a folder of its own: the status, and both texts."""
         with tempfile.TemporaryDirectory(dir=room) as folder:
             for name, data in self.files:
                 with open(os.path.join(folder, name), "wb") as file:
                     file.write(data)
             names = [name for name, _ in self.files]
             piped = self.files[-1][1] if self.piped else b""
-            words = [program, *self.words.split(" "), *names[:-1], "-" if self.piped else names[-1]]
+            words = [program, *self.words.split(" "), *more, *names[:-1], "-" if self.piped else names[-1]]
             ended = subprocess.run(words, cwd=folder, input=piped, capture_output=True, timeout=60)
-        error = ended.stderr.decode("utf8", "replace")
-        self.came = ended.returncode, ended.stdout.decode("utf8", "replace"), error
-        return self
+        return ended.returncode, ended.stdout.decode("utf8", "replace"), ended.stderr.decode("utf8", "replace")
 
 
 def is_chosen(options, finding):
@@ -322,6 +331,8 @@ class Sweep:
             wanted = case.wanted(lines_of)
             if case.came != wanted:
                 self.tell(case, difference(case.came, wanted))
+            if case.objects != case.came:
+                self.tell(case, f"with --json {difference(case.objects, case.came)}")
         return cases
 
     def judge_all(self, what, rows, data):
