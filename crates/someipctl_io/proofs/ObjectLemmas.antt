@@ -101,7 +101,7 @@ line-object head line =
     let f = field_text Json in
     let behind = head.place ++ line.fields in
     let all : other_members_text (field_members (head.number ++ (head.origin ++ behind)))
-        ≡ fields_text Json head.number ++ (fields_text Json head.origin ++ (fields_text Json head.place ++ fields_text Json line.fields)) =
+    ≡ fields_text Json head.number ++ (fields_text Json head.origin ++ (fields_text Json head.place ++ fields_text Json line.fields)) =
     others-fields (head.number ++ (head.origin ++ behind)) ∙ flat_map-append f head.number (head.origin ++ behind)
     ∙ ap (λ (t : List ℕ). fields_text Json head.number ++ t)
     (flat_map-append f head.origin behind ∙ ap (λ (t : List ℕ). fields_text Json head.origin ++ t) (flat_map-append f head.place line.fields)) in

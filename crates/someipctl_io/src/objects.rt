@@ -16,9 +16,7 @@ ghost use Rattle.someipctl_io.specs.ToldViews.{view_field, view_said};
 use crate::form::Form;
 use crate::output::{Buffer, CannotWrite};
 use crate::parts::{Part, put_parts};
-use crate::told::{
-    LineHead, Said, address_between, endpoint_between, put_fields, time_between,
-};
+use crate::told::{LineHead, Said, address_between, endpoint_between, put_fields, time_between};
 use std::io::Write;
 use std::net::{Ipv4Addr, SocketAddrV4};
 
@@ -106,13 +104,60 @@ fn put_said<W: Write>(
         Said::Flag(flag) => put_parts(buffer, writer, &[Part::Text(truth(flag))]),
         Said::Mark => put_parts(buffer, writer, &[Part::Text("true")]),
         Said::Nothing => put_parts(buffer, writer, &[Part::Text("null")]),
-        Said::Address(address) => put_parts(buffer, writer, &quoted_address(address)),
-        Said::Endpoint(endpoint) => put_parts(buffer, writer, &quoted_endpoint(endpoint)),
+        Said::Address(address) => put_quoted_address(buffer, writer, address),
+        Said::Endpoint(endpoint) => put_quoted_endpoint(buffer, writer, endpoint),
         Said::Time {
             seconds,
             nanoseconds,
-        } => put_parts(buffer, writer, &quoted_time(seconds, nanoseconds)),
+        } => put_quoted_time(buffer, writer, seconds, nanoseconds),
     }
+}
+
+/// Prints an address between quotes. It stands apart, as the next two do, since room for many parts is cleared
+/// where it is taken.
+#[inline(never)]
+fn put_quoted_address<W: Write>(
+    buffer: &mut Buffer,
+    writer: &mut W,
+    address: Ipv4Addr,
+) -> Result<(), CannotWrite>
+    ensures ok { OnOk result (Sends (W.contents writer.old) buffer.old (W.contents writer.new) buffer.new
+        (quoted (ipv4_text (ipv4_octets address)))) }
+    ensures err { OnErr result (Stops (W.contents writer.old) buffer.old (W.contents writer.new)
+        (quoted (ipv4_text (ipv4_octets address)))) }
+{
+    put_parts(buffer, writer, &quoted_address(address))
+}
+
+/// Prints an endpoint between quotes.
+#[inline(never)]
+fn put_quoted_endpoint<W: Write>(
+    buffer: &mut Buffer,
+    writer: &mut W,
+    endpoint: SocketAddrV4,
+) -> Result<(), CannotWrite>
+    ensures ok { OnOk result (Sends (W.contents writer.old) buffer.old (W.contents writer.new) buffer.new
+        (quoted (socket_v4_text endpoint))) }
+    ensures err { OnErr result (Stops (W.contents writer.old) buffer.old (W.contents writer.new)
+        (quoted (socket_v4_text endpoint))) }
+{
+    put_parts(buffer, writer, &quoted_endpoint(endpoint))
+}
+
+/// Prints a time between quotes.
+#[inline(never)]
+fn put_quoted_time<W: Write>(
+    buffer: &mut Buffer,
+    writer: &mut W,
+    seconds: u64,
+    nanoseconds: u32,
+) -> Result<(), CannotWrite>
+    ensures ok { OnOk result (Sends (W.contents writer.old) buffer.old (W.contents writer.new) buffer.new
+        (quoted (seconds_text seconds nanoseconds))) }
+    ensures err { OnErr result (Stops (W.contents writer.old) buffer.old (W.contents writer.new)
+        (quoted (seconds_text seconds nanoseconds))) }
+{
+    put_parts(buffer, writer, &quoted_time(seconds, nanoseconds))
 }
 
 /// An ID between quotes.

@@ -255,13 +255,60 @@ fn put_plain_said<W: Write>(
         Said::Flag(flag) => put_parts(buffer, writer, &[Part::Text(digit_of_flag(flag))]),
         Said::Mark => Ok(()),
         Said::Nothing => put_parts(buffer, writer, &[Part::Text("-")]),
-        Said::Address(address) => put_parts(buffer, writer, &address_between("", address)),
-        Said::Endpoint(endpoint) => put_parts(buffer, writer, &endpoint_between("", endpoint)),
+        Said::Address(address) => put_address(buffer, writer, address),
+        Said::Endpoint(endpoint) => put_endpoint(buffer, writer, endpoint),
         Said::Time {
             seconds,
             nanoseconds,
-        } => put_parts(buffer, writer, &time_between("", seconds, nanoseconds)),
+        } => put_time(buffer, writer, seconds, nanoseconds),
     }
+}
+
+/// Prints an address. It stands apart, as the next two do, since room for many parts is cleared where it is
+/// taken.
+#[inline(never)]
+fn put_address<W: Write>(
+    buffer: &mut Buffer,
+    writer: &mut W,
+    address: Ipv4Addr,
+) -> Result<(), CannotWrite>
+    ensures ok { OnOk result (Sends (W.contents writer.old) buffer.old (W.contents writer.new) buffer.new
+        (ipv4_text (ipv4_octets address))) }
+    ensures err { OnErr result (Stops (W.contents writer.old) buffer.old (W.contents writer.new)
+        (ipv4_text (ipv4_octets address))) }
+{
+    put_parts(buffer, writer, &address_between("", address))
+}
+
+/// Prints an endpoint.
+#[inline(never)]
+fn put_endpoint<W: Write>(
+    buffer: &mut Buffer,
+    writer: &mut W,
+    endpoint: SocketAddrV4,
+) -> Result<(), CannotWrite>
+    ensures ok { OnOk result (Sends (W.contents writer.old) buffer.old (W.contents writer.new) buffer.new
+        (socket_v4_text endpoint)) }
+    ensures err { OnErr result (Stops (W.contents writer.old) buffer.old (W.contents writer.new)
+        (socket_v4_text endpoint)) }
+{
+    put_parts(buffer, writer, &endpoint_between("", endpoint))
+}
+
+/// Prints a time.
+#[inline(never)]
+fn put_time<W: Write>(
+    buffer: &mut Buffer,
+    writer: &mut W,
+    seconds: u64,
+    nanoseconds: u32,
+) -> Result<(), CannotWrite>
+    ensures ok { OnOk result (Sends (W.contents writer.old) buffer.old (W.contents writer.new) buffer.new
+        (seconds_text seconds nanoseconds)) }
+    ensures err { OnErr result (Stops (W.contents writer.old) buffer.old (W.contents writer.new)
+        (seconds_text seconds nanoseconds)) }
+{
+    put_parts(buffer, writer, &time_between("", seconds, nanoseconds))
 }
 
 /// A time between two texts.

@@ -29,14 +29,18 @@ returns-in_err-put_value_object-clause-err g c =
     let head = head_from (map view_field c.args.origin.now) c.args.k in
     let line = line_text Json head (whole_told (view c.args.message.now)) in
     let value = value_lines Json head c.make_fields.new.self.fields.items in
-    OnErr-any c.from_residual-in_err-put_value_object.result
-    (line ++ value, (c.make_fields.new.self.fields.items, c.in_ok-faulty.ensures.fields, refl),
-    Stops-after _ _ _ _ _ line value c.in_ok-put_whole_object.ensures.ok (rw c.deref.ensures.value at c.in_err-put_value_object.ensures.err))
+    OnErr-any c.from_residual-in_err-put_value_object.result (
+      line ++ value,
+      (c.make_fields.new.self.fields.items, c.in_ok-faulty.ensures.fields, refl),
+      Stops-after _ _ _ _ _ line value c.in_ok-put_whole_object.ensures.ok (rw c.deref.ensures.value at c.in_err-put_value_object.ensures.err),
+    )
 
 pub returns-clause-ok : goal.returns-clause-ok
 returns-clause-ok g c =
     let head = head_from (map view_field c.args.origin.now) c.args.k in
     let line = line_text Json head (whole_told (view c.args.message.now)) in
-    let value = value_lines Json head c.make_fields.new.self.fields.items in
-    (line ++ value, (c.make_fields.new.self.fields.items, c.in_ok-faulty.ensures.fields, refl),
-    Sends-trans _ _ _ _ _ _ line value c.in_ok-put_whole_object.ensures.ok (rw c.deref.ensures.value at c.in_ok-put_value_object.ensures.ok))
+    let value = value_lines Json head c.make_fields.new.self.fields.items in (
+      line ++ value,
+      (c.make_fields.new.self.fields.items, c.in_ok-faulty.ensures.fields, refl),
+      Sends-trans _ _ _ _ _ _ line value c.in_ok-put_whole_object.ensures.ok (rw c.deref.ensures.value at c.in_ok-put_value_object.ensures.ok),
+    )
