@@ -6,7 +6,9 @@
 //! - `command`, `help`: what the words ask for, and the answer to others;
 //! - `grammar`: the commands with their arguments, as `clap` is told of them;
 //! - `examples`: the text below each help;
-//! - `program`: the words, the files that they name, and the exit status;
+//! - `program`: the words, and the exit status;
+//! - `options`, `source`: what options ask for, and the files that are named;
+//! - `recordings`, `runs`: the commands over recordings, and over setups and schedules;
 //! - `failure`: why the program failed, with its exit status and its text;
 //! - `laws`: what the definitions behind the contracts promise.
 //!
@@ -21,7 +23,10 @@ mod failure;
 mod grammar;
 mod help;
 pub mod laws;
+mod options;
 mod program;
+mod recordings;
+mod runs;
 mod source;
 
 pub use command::{

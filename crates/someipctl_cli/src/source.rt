@@ -1,8 +1,11 @@
-//! Where recordings are read from.
+//! The files that a call names, and where recordings are read from.
 ghost use Rattle.someipctl_cli.specs.Sources.{remaining_of};
 
-use std::io;
-use std::io::Read;
+use crate::failure::{Failure, Refusal};
+use someipctl_show::types::{MessageTypes, read_types};
+use std::io::{ErrorKind, Read};
+use std::rt::Files;
+use std::{fs, io};
 
 /// Where a recording is read from.
 #[derive(Drop)]
@@ -22,4 +25,41 @@ impl<F: Read, I: Read> Read for Source<F, I> {
             Source::Standard(input) => input.read(buf),
         }
     }
+}
+
+/// All recordings at these paths, and the one that comes on standard input, which is called `-`.
+pub(crate) fn open_sources<'p, R: Files + Input + AllocGlobal>(
+    rt: &R,
+    paths: &[&'p str],
+) -> Result<Vec<Source<R::File, R::Reader>>, Failure<'p>> {
+    let mut sources = Vec::new(rt.alloc());
+    for path in paths {
+        let source = if *path == "-" {
+            Source::Standard(rt.reader())
+        } else {
+            Source::File(open_file(rt, path)?)
+        };
+        sources.push(source).map_err(|_| Failure::OutOfMemory)?;
+    }
+    Ok(sources)
+}
+
+pub(crate) fn open_file<'p, R: Files>(rt: &R, path: &'p str) -> Result<R::File, Failure<'p>> {
+    fs::open(rt, path).map_err(|error| match error.kind() {
+        ErrorKind::OutOfMemory => Failure::OutOfMemory,
+        _ => Failure::CannotRead(path),
+    })
+}
+
+
+/// What the types file at a path says, if there is one.
+pub(crate) fn types_at<'p, R: Files + AllocGlobal>(
+    rt: &R,
+    path: Option<&'p str>,
+) -> Result<MessageTypes, Failure<'p>> {
+    let Some(path) = path else {
+        return Ok(MessageTypes::none(rt.alloc()));
+    };
+    let mut file = open_file(rt, path)?;
+    read_types(rt.alloc(), &mut file).map_err(|fault| Failure::of(fault.map(Refusal::Types), path))
 }

@@ -1,5 +1,6 @@
 //! Laws of the definitions behind the contracts: what the lines of captures and of files of vectors
-//! say, and where a message begins in its datagram. Each is the contract of a function that does nothing.
+//! say, where a message begins in its datagram, and that both forms of a value tell the same. Each is the
+//! contract of a function that does nothing.
 ghost use Rattle.std.specs.Prelude.{◌≡◌, ◌↔◌, ◌+◌, ◌++◌, [], ◌∷◌, codes, true, Option, None};
 ghost use Rattle.std.specs.Prelude.{ℕ, List, drop, length};
 ghost use Rattle.std.specs.List.{flat_map};
@@ -9,9 +10,13 @@ ghost use Rattle.someip_wire.specs.Spelling.{MessageValue, spelling};
 ghost use Rattle.someip_wire.specs.Datagram.{Datagram, items};
 ghost use Rattle.someip_payload_values.specs.Data.{bool};
 ghost use Rattle.someip_texts.specs.Lines.{is_left_out};
+ghost use Rattle.someipctl_io.specs.declared.form.Form.TheVariants.{Plain};
+ghost use Rattle.someipctl_io.specs.ToldItems.{datagram_head, value_lines};
+ghost use Rattle.someipctl_io.specs.ToldLines.{ToldField, fields_text};
 ghost use Rattle.someipctl_show.specs.types.Types.{TypesValue};
+ghost use Rattle.someipctl_show.specs.types.ValueFields.{AreValueFields};
 ghost use Rattle.someipctl_show.specs.ShownText.{AreLines, AreTexts, no_types};
-ghost use Rattle.someipctl_show.specs.types.ValueLine.{TellNoFloats};
+ghost use Rattle.someipctl_show.specs.types.ValueLine.{IsValueLine, TellNoFloats};
 ghost use Rattle.someipctl_show.specs.TextKinds.{Joined};
 ghost use Rattle.someipctl_show.specs.VectorLines.{IsBadBehind, Said, Says, asks, expects};
 ghost use Rattle.someipctl_show.specs.VectorLines.{of_datagram, of_payload};
@@ -68,4 +73,15 @@ pub fn datagrams_have_one_text()
         (a b : List ℕ) → AreTexts types k datagrams a → AreTexts types k datagrams b → a ≡ b }
     // Without a types file nothing is told of floats.
     ensures none { TellNoFloats no_types }
+{}
+
+/// The plain line of a value is the plain form of the fields of its object: for such fields it is a line of the
+/// value, and each line of the value is that of such fields.
+pub fn a_plain_value_tells_the_same()
+    ensures line { (types : TypesValue) (k place : ℕ) (m : MessageValue) (fields : List ToldField)
+        → AreValueFields types place m fields
+        → IsValueLine types k place m (value_lines Plain (datagram_head k) (fields_text Plain fields)) }
+    ensures fields { (types : TypesValue) (k place : ℕ) (m : MessageValue) (line : List ℕ)
+        → IsValueLine types k place m line → (fields : List ToldField) × AreValueFields types place m fields
+        × (line ≡ value_lines Plain (datagram_head k) (fields_text Plain fields)) }
 {}

@@ -1,0 +1,158 @@
+//! The commands over recordings: `recording` and `audit`.
+use crate::command::{AuditOptions, RecordingOptions};
+use crate::failure::{Failure, Refusal};
+use crate::options::{SharedOptions, line_form, selection_of, whole_of};
+use crate::source::{open_sources, types_at};
+use someip_tp::IntervalPool;
+use someipctl_io::Outcome;
+use someipctl_recordings::audit::{AuditAsked, rules_in, show_audit};
+use someipctl_recordings::{
+    Asked, FileFault, Heads, ShownRecording, StoppedAt, Wanted, show_recording,
+};
+use std::io;
+use std::rt::Files;
+
+/// How the commands are used.
+const RECORDING_USAGE: &str = "recording [OPTIONS] <FILE>...";
+
+const AUDIT_USAGE: &str = "audit [OPTIONS] <FILE>...";
+
+/// Shows recordings, and then tells on standard error what was left out of them, and their fault, if they have
+/// one. Whatever is wrong with the options is told before a file is looked at, and whatever is wrong with the
+/// types file before the recordings are.
+pub(crate) fn show_recorded<'p, R: Files + Print + Eprint + Input + AllocGlobal>(
+    rt: &R,
+    paths: &[&'p str],
+    options: RecordingOptions<'p>,
+) -> Result<Outcome, Failure<'p>> {
+    let selection = selection_of(
+        rt,
+        SharedOptions {
+            usage: RECORDING_USAGE,
+            ports: options.ports,
+            service: options.service,
+            packets: options.packets,
+            choice: options.choice,
+        },
+    )?;
+    show_wanted(rt, paths, options, selection.wanted())
+}
+
+/// The same, where what is asked for is right.
+fn show_wanted<'p, R: Files + Print + Eprint + Input + AllocGlobal>(
+    rt: &R,
+    paths: &[&'p str],
+    options: RecordingOptions<'p>,
+    wanted: Wanted<'_>,
+) -> Result<Outcome, Failure<'p>> {
+    let whole = whole_of(&options)?;
+    let types = types_at(rt, options.types)?;
+    let asked = Asked {
+        wanted,
+        types: &types,
+        form: line_form(options.json),
+        heads: Heads {
+            frame: options.frames,
+            endpoints: options.endpoints,
+        },
+        whole,
+    };
+    let mut sources = open_sources(rt, paths)?;
+    let mut writer = io::writer(rt);
+    let shown = show_recording::<IntervalPool, _, _>(
+        rt.alloc(),
+        sources.as_mut_slice(),
+        &asked,
+        &mut writer,
+    );
+    end_recording(rt, paths, shown)
+}
+
+/// Shows the audit of recordings, and then tells on standard error what was left out of them, and their fault,
+/// if they have one. Whatever is wrong with the options is told before a recording is looked at.
+pub(crate) fn audit_recorded<'p, R: Files + Print + Eprint + Input + AllocGlobal>(
+    rt: &R,
+    paths: &[&'p str],
+    options: AuditOptions<'p>,
+) -> Result<Outcome, Failure<'p>> {
+    let selection = selection_of(
+        rt,
+        SharedOptions {
+            usage: AUDIT_USAGE,
+            ports: options.ports,
+            service: options.service,
+            packets: options.packets,
+            choice: options.choice,
+        },
+    )?;
+    audit_wanted(rt, paths, options, selection.wanted())
+}
+
+/// The same, where what is asked for is right.
+fn audit_wanted<'p, R: Files + Print + Eprint + Input + AllocGlobal>(
+    rt: &R,
+    paths: &[&'p str],
+    options: AuditOptions<'p>,
+    wanted: Wanted<'_>,
+) -> Result<Outcome, Failure<'p>> {
+    let rules = match rules_in(options.answer_ms, options.settle_ms) {
+        Ok(rules) => rules,
+        Err(error) => return Err(Failure::BadTimes(error)),
+    };
+    let asked = AuditAsked {
+        rules,
+        wanted,
+        form: line_form(options.json),
+        frames: options.frames,
+    };
+    let mut sources = open_sources(rt, paths)?;
+    let mut writer = io::writer(rt);
+    let shown = show_audit::<IntervalPool, _, _>(
+        rt.alloc(),
+        sources.as_mut_slice(),
+        &asked,
+        &mut writer,
+    );
+    end_recording(rt, paths, shown)
+}
+
+/// Tells what was left out of recordings, and their fault, if they have one.
+fn end_recording<'p, R: Eprint>(
+    rt: &R,
+    paths: &[&'p str],
+    shown: Result<ShownRecording, StoppedAt>,
+) -> Result<Outcome, Failure<'p>> {
+    let shown = match shown {
+        Ok(shown) => shown,
+        Err(stopped) => return Err(stopped_at(paths, stopped)),
+    };
+    // Where standard error can't be written, what was printed stands all the same.
+    if !shown.left_out.is_empty() {
+        let _ = eprintln!(rt; "recording: {}", shown.left_out);
+    }
+    if shown.is_full {
+        let _ = eprintln!(rt; "recording: full endpoints");
+    }
+    match shown.fault {
+        Some(found) => Err(fault_at(paths, found)),
+        None => Ok(shown.outcome),
+    }
+}
+
+/// Why one of these recordings was not gone over.
+fn stopped_at<'p>(paths: &[&'p str], stopped: StoppedAt) -> Failure<'p> {
+    let path = match paths.get(stopped.file) {
+        Some(path) => *path,
+        // It is no file that stopped it.
+        None => "",
+    };
+    Failure::of(stopped.fault.map(|never| match never {}), path)
+}
+
+/// The fault of one of these recordings, which is named where there are several.
+fn fault_at<'p>(paths: &[&'p str], found: FileFault) -> Failure<'p> {
+    match paths.get(found.file) {
+        Some(path) if paths.len() > 1 => Failure::RecordingOf(*path, found.fault),
+        _ => Failure::Refused(Refusal::Recording(found.fault)),
+    }
+}
