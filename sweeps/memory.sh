@@ -37,8 +37,8 @@
 # them.
 #
 # The program itself runs `show`, without a types file and with one, `recording --whole --types`, `audit`, both of these
-# over copies, fragments and several files, `payload`, `vectors` and `run` so. Each refused growth, also of the command
-# line, comes to exit status 3, `out of memory` on standard error, and a beginning of the expected text on standard
+# over copies, fragments and several files, `payload`, `vectors` and `run` so, and for objects `recording`, `audit` and
+# `run`. Each refused growth, also of the command line, comes to exit status 3, `out of memory` on standard error, and a beginning of the expected text on standard
 # output.
 #
 # The gate runs each sweep once with nothing refused: `memory all again`, before the words of the other sweeps.
@@ -169,6 +169,9 @@ sweep_memory() {
     sweep_program payload 'array/8<2,array/8<2,u8>>' 050201020103
     sweep_program vectors "$examples/vectors/two.txt"
     sweep_program run "$examples/runs/two.toml" "$examples/runs/two.txt"
+    sweep_program recording --json --frames --endpoints --whole --types "$examples/types.toml" "$examples/route.pcap"
+    sweep_program audit --json --ports 30509 "$examples/route.pcap"
+    sweep_program run --json --lines "$examples/runs/two.toml" "$examples/runs/two.txt"
     [ "$findings" -eq 0 ] || return 1
     echo "$part: $growths growths refused, $judged of them judged, no finding"
 }
