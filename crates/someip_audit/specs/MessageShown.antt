@@ -1,5 +1,5 @@
 -- What a message that is none of Service Discovery shows over all books.
-use Rattle.std.specs.Prelude.{ℕ, nat_lt, max, Bool, ◌&&◌, if◌then◌else◌, List, slice_index, length, Option, None, Some, option_map, Result, Ok, Err}
+use Rattle.std.specs.Prelude.{ℕ, nat_lt, max, Bool, ◌&&◌, not, ◌==◌, if◌then◌else◌, List, slice_index, length, Option, None, Some, option_map, Result, Ok, Err}
 use Rattle.std.specs.Net.Addr.{ipv4_octets}
 use Rattle.std.specs.Net.Socket.{v4_ip}
 use Rattle.std.specs.declared.net.socket_addr.SocketAddrV4.{SocketAddrV4}
@@ -10,6 +10,7 @@ use Rattle.someip_wire.specs.Spelling.{MessageValue}
 use Rattle.someip_reassembly.specs.declared.error.TpError.{TpError}
 use Rattle.someip_tables.specs.declared.hashed.origin.Origin.{Origin}
 use Rattle.audit_traffic.specs.calls.CallBooks as calls
+use Rattle.audit_traffic.specs.calls.CallFindings.{is_answer_type}
 use Rattle.audit_traffic.specs.calls.Tapped.{Tapped}
 use Rattle.audit_traffic.specs.segments.SegmentBooks as segments
 use Rattle.audit_sd.specs.declared.receivers.delivery.Delivery.{Delivery}
@@ -17,6 +18,7 @@ use Rattle.audit_sd.specs.receivers.ReceiverTables as receivers
 use Rattle.audit_traffic.specs.declared.events.flow.EventFlow.{EventFlow}
 use Rattle.audit_traffic.specs.declared.events.notification.Notification.{Notification as EventSeen}
 use Rattle.audit_traffic.specs.events.EventTables as events
+use Rattle.someip_audit.specs.declared.finding.Finding.{Finding}
 use Rattle.someip_audit.specs.declared.finding.Finding.TheVariants as findings
 use Rattle.someip_audit.specs.BooksHeld.{Held}
 use Rattle.someip_audit.specs.SdShown.{Work, with_told}
@@ -34,6 +36,17 @@ call_shown now origin header payload work = record {
   held = record work.held { calls = calls.book_after (tapped_in now origin header payload) work.held.calls };
   told = with_told (option_map (findings.Call header) (calls.told (tapped_in now origin header payload) work.held.calls)) work.told;
 }
+
+-- a message is an answer with another return code than E_OK
+abbrev pub is_error : Header → Bool
+is_error header = is_answer_type header.kind && not (header.code.0 == 0)
+
+-- what it shows by its return code
+abbrev pub told_of_code : Header → Option Finding
+told_of_code header = if is_error header then Some (findings.Error header) else None
+
+abbrev pub code_shown : Header → Work → Work
+code_shown header work = record work { told = with_told (told_of_code header) work.told }
 
 -- an endpoint is of one node: its address is none of a group or of all, which begin with 224 and more
 abbrev pub is_unicast : SocketAddrV4 → Bool
@@ -74,9 +87,9 @@ flow_shown origin header work =
     }
     else work
 
--- what it shows of calls, then of those who are subscribed to its event, and then by the event's session
+-- what it shows of calls, then by its return code, then of those who are subscribed to its event, and then by the event's session
 abbrev pub whole_shown : ℕ → Origin → Header → List ℕ → Work → Work
-whole_shown now origin header payload work = flow_shown origin header (event_shown now origin header (call_shown now origin header payload work))
+whole_shown now origin header payload work = flow_shown origin header (event_shown now origin header (code_shown header (call_shown now origin header payload work)))
 
 -- ---- a segment
 

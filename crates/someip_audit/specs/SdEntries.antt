@@ -1,5 +1,5 @@
 -- Messages and entries of Service Discovery, as the books take them (SOME/IP Service Discovery, "Entry Format").
-use Rattle.std.specs.Prelude.{ℕ, ◌==◌, Bool, true, false, not, ◌&&◌, if◌then◌else◌, Option, None}
+use Rattle.std.specs.Prelude.{ℕ, ◌==◌, Bool, true, false, not, ◌&&◌, if◌then◌else◌, Option, None, Some}
 use Rattle.std.specs.declared.net.ipv4_addr.Ipv4Addr.{Ipv4Addr}
 use Rattle.std.specs.declared.net.socket_addr.SocketAddrV4.{SocketAddrV4}
 use Rattle.std.specs.Net.Socket.{v4_ip}
@@ -22,6 +22,7 @@ use Rattle.audit_sd.specs.declared.subscriptions.entry.SubscribeEntry.{Subscribe
 use Rattle.audit_sd.specs.declared.subscriptions.key.SubscriptionKey.{SubscriptionKey}
 use Rattle.audit_sd.specs.declared.receivers.entry.ReceiverEntry.{ReceiverEntry}
 use Rattle.audit_sd.specs.declared.receivers.entry.WithdrawnOffer.{WithdrawnOffer}
+use Rattle.someip_audit.specs.declared.finding.ServiceInstance.{ServiceInstance}
 
 -- the address that a datagram was sent from, and the one that it was sent to
 abbrev pub sender : Origin → Ipv4Addr
@@ -97,3 +98,20 @@ names_endpoint (Eventgroup entry) = subscribes entry.kind && not (entry.ttl == 0
 -- the endpoint that an entry names, by the first IPv4 endpoint over UDP among its options, if it has one
 abbrev pub named_endpoint : EntryHead → Option SocketAddrV4 → Option SocketAddrV4
 named_endpoint head endpoint = if names_endpoint head then endpoint else None
+
+-- ---- the endpoints that are needed
+
+-- the instance that an entry is about
+abbrev pub instance_of : EntryHead → ServiceInstance
+instance_of (Service entry) = record { service = entry.service; instance = entry.instance }
+instance_of (Eventgroup entry) = record { service = entry.service; instance = entry.instance }
+
+-- an entry is an Offer, a Subscribe or a StopSubscribe, and no Find, StopOffer or answer
+abbrev pub needs_endpoint : EntryHead → Bool
+needs_endpoint (Service entry) = offers entry.kind && not (entry.ttl == 0)
+needs_endpoint (Eventgroup entry) = subscribes entry.kind
+
+-- it needs an IPv4 endpoint over UDP among its options, and has none
+abbrev pub lacks_endpoint : EntryHead → Option SocketAddrV4 → Bool
+lacks_endpoint head None = needs_endpoint head
+lacks_endpoint head (Some endpoint) = false

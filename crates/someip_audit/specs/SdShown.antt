@@ -26,7 +26,7 @@ use Rattle.audit_traffic.specs.events.EventTables as events
 use Rattle.someip_audit.specs.declared.finding.Finding.{Finding}
 use Rattle.someip_audit.specs.declared.finding.Finding.TheVariants as findings
 use Rattle.someip_audit.specs.BooksHeld.{Held}
-use Rattle.someip_audit.specs.SdEntries.{named_endpoint, offer_entry, receiver_entry, sd_message, subscribe_entry, withdrawn_offer}
+use Rattle.someip_audit.specs.SdEntries.{instance_of, lacks_endpoint, named_endpoint, offer_entry, receiver_entry, sd_message, subscribe_entry, withdrawn_offer}
 use Rattle.someip_audit.specs.WatchedEndpoints as watching
 
 -- what the books hold, and what was told so far
@@ -129,9 +129,21 @@ abbrev pub good_shown : ℕ → Origin → EntryHead → Option SocketAddrV4 →
 good_shown now origin head endpoint work = head_shown now origin head endpoint (endpoint_shown (named_endpoint head endpoint) work)
 
 -- of an entry whose runs pass the options none is known
+abbrev pub taken_shown : ℕ → Origin → ReadValue → Work → Work
+taken_shown now origin (good entry) work = good_shown now origin entry.head (first_udp_endpoint (options_of entry)) work
+taken_shown now origin (bad_run head) work = head_shown now origin head None work
+
+-- what its options show: that one of its runs passes the options, or that it needs an endpoint and has none
+abbrev pub told_of_options : ReadValue → Option Finding
+told_of_options (good entry) = if lacks_endpoint entry.head (first_udp_endpoint (options_of entry)) then Some (findings.NoEndpoint (instance_of entry.head)) else None
+told_of_options (bad_run head) = Some (findings.BadRun (instance_of head))
+
+abbrev pub options_shown : ReadValue → Work → Work
+options_shown entry work = record work { told = with_told (told_of_options entry) work.told }
+
+-- an entry comes: what its options show is told first
 abbrev pub entry_shown : ℕ → Origin → ReadValue → Work → Work
-entry_shown now origin (good entry) work = good_shown now origin entry.head (first_udp_endpoint (options_of entry)) work
-entry_shown now origin (bad_run head) work = head_shown now origin head None work
+entry_shown now origin entry work = taken_shown now origin entry (options_shown entry work)
 
 -- ---- the message
 

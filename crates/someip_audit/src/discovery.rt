@@ -3,12 +3,13 @@ ghost use Rattle.std.specs.Prelude.{◌≡◌, OnErr, OnOk, Some, [], map};
 ghost use Rattle.sd_wire.specs.contents.Values.{view_read, view_sd};
 ghost use Rattle.someip_audit.specs.SdShown.{IsBegun, begun_again, changed, endpoint_shown, entries_shown, entry_shown};
 ghost use Rattle.someip_audit.specs.SdShown.{good_shown, group_shown, head_shown, offer_shown, receiver_shown, sd_shown};
-ghost use Rattle.someip_audit.specs.SdShown.{service_shown, session_shown, subscribe_shown};
-ghost use Rattle.someip_audit.specs.SdShown.{with_told, working};
+ghost use Rattle.someip_audit.specs.SdShown.{service_shown, session_shown, subscribe_shown, taken_shown};
+ghost use Rattle.someip_audit.specs.SdShown.{told_of_options, with_told, working};
 
 use crate::books::Books;
 use crate::entries::{
-    named_endpoint, offer_entry, receiver_entry, sd_message, subscribe_entry, withdrawn_offer,
+    instance_of, lacks_endpoint, named_endpoint, offer_entry, receiver_entry, sd_message,
+    subscribe_entry, withdrawn_offer,
 };
 use crate::finding::Finding;
 use audit_sd::offers::OfferEntry;
@@ -92,7 +93,7 @@ impl<S: Reassembly> Books<S> {
         Ok(())
     }
 
-    /// An entry comes.
+    /// An entry comes: what its options show is told first.
     fn saw_entry(
         &mut self,
         now: Moment,
@@ -104,6 +105,23 @@ impl<S: Reassembly> Books<S> {
             ≡ entry_shown now origin.now (view_read entry.now) (working self.old findings.old.items)) }
         ensures err { OnErr result (IsBegun findings.old.items findings.new.items
             (entry_shown now origin.now (view_read entry.now) (working self.old findings.old.items)).told) }
+    {
+        tell_if_any(findings, told_of_options(entry))?;
+        self.take_entry(now, origin, entry, findings)
+    }
+
+    /// The books take an entry.
+    fn take_entry(
+        &mut self,
+        now: Moment,
+        origin: &Origin,
+        entry: &ReadEntry,
+        findings: &mut Vec<Finding>,
+    ) -> Result<(), AllocError>
+        ensures ok { OnOk result (working self.new findings.new.items
+            ≡ taken_shown now origin.now (view_read entry.now) (working self.old findings.old.items)) }
+        ensures err { OnErr result (IsBegun findings.old.items findings.new.items
+            (taken_shown now origin.now (view_read entry.now) (working self.old findings.old.items)).told) }
     {
         match entry {
             ReadEntry::Good(entry) => {
@@ -270,6 +288,35 @@ impl<S: Reassembly> Books<S> {
             Some(shown) => tell(findings, Finding::Receiver(entry.key, shown)),
             None => Ok(()),
         }
+    }
+}
+
+/// What the options of an entry show: that a run goes past them, or that it lacks an endpoint.
+fn told_of_options(entry: &ReadEntry) -> Option<Finding>
+    ensures { result ≡ told_of_options (view_read entry.now) }
+{
+    match entry {
+        ReadEntry::Good(entry) => {
+            if !lacks_endpoint(&entry.head, entry.udp_endpoint()) {
+                return None;
+            }
+            Some(Finding::NoEndpoint(instance_of(&entry.head)))
+        }
+        ReadEntry::BadRun(head) => Some(Finding::BadRun(instance_of(head))),
+    }
+}
+
+/// Appends a finding, if there is one.
+pub(crate) fn tell_if_any(
+    findings: &mut Vec<Finding>,
+    finding: Option<Finding>,
+) -> Result<(), AllocError>
+    ensures ok { OnOk result (findings.new.items ≡ with_told finding findings.old.items) }
+    ensures err { OnErr result (findings.new.items ≡ findings.old.items) }
+{
+    match finding {
+        Some(finding) => tell(findings, finding),
+        None => Ok(()),
     }
 }
 

@@ -1,8 +1,9 @@
 //! Entries of Service Discovery as the books take them.
 ghost use Rattle.std.specs.Prelude.{◌≡◌};
-ghost use Rattle.someip_audit.specs.SdEntries.{named_endpoint, names_endpoint, offer_entry, receiver_entry};
-ghost use Rattle.someip_audit.specs.SdEntries.{sd_message, subscribe_entry, withdrawn_offer};
+ghost use Rattle.someip_audit.specs.SdEntries.{instance_of, lacks_endpoint, named_endpoint, names_endpoint, needs_endpoint};
+ghost use Rattle.someip_audit.specs.SdEntries.{offer_entry, receiver_entry, sd_message, subscribe_entry, withdrawn_offer};
 
+use crate::finding::ServiceInstance;
 use audit_sd::offers::{OfferEntry, OfferKey};
 use audit_sd::receivers::{ReceiverEntry, WithdrawnOffer};
 use audit_sd::sessions::SdMessage;
@@ -105,6 +106,39 @@ pub(crate) fn named_endpoint(
     ensures { result ≡ named_endpoint head.now endpoint }
 {
     if names_endpoint(head) { endpoint } else { None }
+}
+
+/// The instance that an entry is about.
+pub(crate) fn instance_of(head: &EntryHead) -> ServiceInstance
+    ensures { result ≡ instance_of head.now }
+{
+    let (service, instance) = match head {
+        EntryHead::Service(entry) => (entry.service, entry.instance),
+        EntryHead::Eventgroup(entry) => (entry.service, entry.instance),
+    };
+    ServiceInstance { service, instance }
+}
+
+/// Whether an entry needs an endpoint, and has none.
+pub(crate) fn lacks_endpoint(head: &EntryHead, endpoint: Option<SocketAddrV4>) -> bool
+    ensures { result ≡ lacks_endpoint head.now endpoint }
+{
+    match endpoint {
+        Some(_) => false,
+        None => needs_endpoint(head),
+    }
+}
+
+/// Whether an entry is an Offer, a Subscribe or a StopSubscribe.
+fn needs_endpoint(head: &EntryHead) -> bool
+    ensures { result ≡ needs_endpoint head.now }
+{
+    match head {
+        EntryHead::Service(entry) => {
+            matches!(entry.kind, ServiceKind::Offer) && entry.ttl.seconds() != 0
+        }
+        EntryHead::Eventgroup(entry) => matches!(entry.kind, EventgroupKind::Subscribe),
+    }
 }
 
 /// Whether an entry is an Offer or a Subscribe.

@@ -8,6 +8,15 @@ use sd_wire::SdError;
 use someip_reassembly::TpError;
 use someip_wire::{Header, WireError};
 
+/// An instance of a service.
+#[derive(Clone, Copy, Debug, PartialEq, Eq)]
+pub struct ServiceInstance {
+    /// The Service ID.
+    pub service: u16,
+    /// The Instance ID.
+    pub instance: u16,
+}
+
 /// What a datagram of a recording shows that is not as it should be, or that a book is full. Places are
 /// numbers of bytes from the datagram's first one.
 #[derive(Clone, Copy, Debug, PartialEq, Eq)]
@@ -22,6 +31,8 @@ pub enum Finding {
     Receiver(SubscriptionKey, audit_sd::receivers::Finding),
     /// A message with this header, as to its call.
     Call(Header, CallFinding),
+    /// A message with this header answers its call with another return code than E_OK.
+    Error(Header),
     /// An event to one endpoint, as to who is subscribed.
     Event(Delivery, audit_sd::receivers::Finding),
     /// An event of this flow, to one endpoint or to a group, with this session, by this.
@@ -34,6 +45,10 @@ pub enum Finding {
     Malformed(WireError),
     /// A message of Service Discovery whose payload has this fault.
     MalformedSd(SdError),
+    /// A run of options of an entry about this instance goes past the options of its message.
+    BadRun(ServiceInstance),
+    /// An entry about this instance needs an IPv4 endpoint over UDP, and none of its options is one.
+    NoEndpoint(ServiceInstance),
     /// An Offer or a Subscribe names an endpoint, and as many were learnt as may be. It is told once, and
     /// no more are learnt.
     EndpointsFull,

@@ -26,7 +26,7 @@ mod watched;
 
 pub use audit::Audit;
 pub use fell_due::FellDue;
-pub use finding::Finding;
+pub use finding::{Finding, ServiceInstance};
 pub use learner::Learner;
 pub use rules::AuditRules;
 pub use watched::WatchRules;

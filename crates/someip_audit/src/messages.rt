@@ -6,12 +6,12 @@
 //! Of one event first its subscription and then its session is told.
 ghost use Rattle.std.specs.Prelude.{◌≡◌, OnErr, OnOk, Some};
 ghost use Rattle.someip_wire.specs.View.{view};
-ghost use Rattle.someip_audit.specs.MessageShown.{call_shown, event_flow, event_shown, flow_shown, is_unicast};
-ghost use Rattle.someip_audit.specs.MessageShown.{message_shown, piece_shown, segment_shown, whole_shown};
+ghost use Rattle.someip_audit.specs.MessageShown.{call_shown, event_flow, event_shown, flow_shown, is_error, is_unicast};
+ghost use Rattle.someip_audit.specs.MessageShown.{message_shown, piece_shown, segment_shown, told_of_code, whole_shown};
 ghost use Rattle.someip_audit.specs.SdShown.{IsBegun, working};
 
 use crate::books::Books;
-use crate::discovery::tell;
+use crate::discovery::{tell, tell_if_any};
 use crate::finding::Finding;
 use crate::watched::is_at_discovery;
 use audit_sd::receivers::Delivery;
@@ -20,13 +20,13 @@ use audit_traffic::segments::SegmentTold;
 use someip_reassembly::Reassembly;
 use someip_tables::Moment;
 use someip_tables::hashed::Origin;
-use someip_wire::{Header, Message, MessageType};
+use someip_wire::{Header, Message, MessageType, ReturnCode};
 use std::alloc::AllocError;
 use std::net::SocketAddrV4;
 
 impl<S: Reassembly> Books<S> {
     /// Takes note of a message that is none of Service Discovery, and appends what it shows: a whole one of
-    /// its call, of who is subscribed to its event, and by its event's session; a segment why it is
+    /// its call, by its return code, of who is subscribed to its event, and by its event's session; a segment why it is
     /// refused, or what its message shows once it is whole, unless it goes from or to the port of Service
     /// Discovery, where messages are not put together. Its payload begins at a place of its datagram.
     /// `bytes` is room for the payload of a message in segments. Where memory runs out, what was appended
@@ -122,6 +122,7 @@ impl<S: Reassembly> Books<S> {
             (working self.old findings.old.items)).told) }
     {
         self.saw_call(now, origin, message, findings)?;
+        tell_if_any(findings, told_of_code(&message.header))?;
         self.saw_event(now, origin, &message.header, findings)?;
         self.saw_flow(origin, &message.header, findings)
     }
@@ -199,6 +200,25 @@ impl<S: Reassembly> Books<S> {
             None => Ok(()),
         }
     }
+}
+
+/// What a whole message with this header shows by its return code.
+fn told_of_code(header: &Header) -> Option<Finding>
+    ensures { result ≡ told_of_code header.now }
+{
+    if is_error(header) {
+        Some(Finding::Error(*header))
+    } else {
+        None
+    }
+}
+
+/// Whether a message with this header is an answer with another return code than E_OK.
+fn is_error(header: &Header) -> bool
+    ensures { result ≡ is_error header.now }
+{
+    let answers = matches!(header.kind, MessageType::Response | MessageType::Error);
+    answers && header.code != ReturnCode::E_OK
 }
 
 /// The flow of an event.

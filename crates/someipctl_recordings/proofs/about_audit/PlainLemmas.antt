@@ -105,6 +105,8 @@ gap-shape space s dot e session n expected x = simp (append_assoc, append-nil)
 finding-words : (finding : Finding) → fields_text Plain (finding_fields finding) ≡ spaced (said finding).words
 finding-words (findings.Malformed fault) = malformed-words (wire.fault_name fault) (wire.fault_place fault)
 finding-words (findings.MalformedSd fault) = malformed-words (sd.fault_name fault) (sd.fault_place fault)
+finding-words (findings.BadRun about) = event-shape (codes " ") (hex4 about.service) (codes ".") (hex4 about.instance)
+finding-words (findings.NoEndpoint about) = event-shape (codes " ") (hex4 about.service) (codes ".") (hex4 about.instance)
 finding-words (findings.NoTpHeader place) = malformed-words (codes "NoHeader") place
 finding-words (findings.Session sessions.Reboot) = refl
 finding-words (findings.Session (sessions.NotNext stamp expected)) = malformed-shape (codes " ") (hex4 stamp.session) (codes "expected") (hex4 expected.session)
@@ -120,6 +122,7 @@ finding-words (findings.Call h (calls.Late ms)) = ap (λ (t : List ℕ). (codes 
 finding-words (findings.Call h calls.Repeated) = call-words [] h.service h.method h.client h.session
 finding-words (findings.Call h calls.Unasked) = call-words [] h.service h.method h.client h.session
 finding-words (findings.Call h calls.Full) = refl
+finding-words (findings.Error h) = ap (λ (t : List ℕ). (codes " " ++ hex2 h.code.0) ++ t) (call-words [] h.service h.method h.client h.session)
 finding-words (findings.Event delivery receivers.Unsubscribed) = event-shape (codes " ") (hex4 delivery.service) (codes ".") (hex4 delivery.event)
 finding-words (findings.Event delivery receivers.Full) = refl
 finding-words (findings.EventSession flow session events.Repeated) = repeated-shape (codes " ") (hex4 flow.service) (codes ".") (hex4 flow.event) (codes "session") (hex4 session)

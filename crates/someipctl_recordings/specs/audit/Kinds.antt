@@ -1,15 +1,18 @@
 -- The kinds of findings, as the summary of an audit names them.
 use Rattle.std.specs.Prelude.{ℕ, ◌==◌, if◌then◌else◌, List, [], ◌∷◌, map, codes}
 use Rattle.someipctl_recordings.specs.declared.audit.kind.Kind.{Kind}
-use Rattle.someipctl_recordings.specs.declared.audit.kind.Kind.TheVariants.{Malformed, Reboot, SdSession, Unanswered, Late, Unasked, Repeated, KeyReused, EventRepeated, EventGap, EventUnsubscribed, Segments, SegmentsMissing, OfferExpired, OfferMoved, Nack, SubscribeUnanswered, Full}
+use Rattle.someipctl_recordings.specs.declared.audit.kind.Kind.TheVariants.{Malformed, BadRun, NoEndpoint, Reboot, SdSession, Unanswered, Late, Error, Unasked, Repeated, KeyReused, EventRepeated, EventGap, EventUnsubscribed, Segments, SegmentsMissing, OfferExpired, OfferMoved, Nack, SubscribeUnanswered, Full}
 
 -- the words of a kind
 abbrev pub kind_words : Kind → List ℕ
 kind_words Malformed = codes "malformed"
+kind_words BadRun = codes "bad run"
+kind_words NoEndpoint = codes "no endpoint"
 kind_words Reboot = codes "reboot"
 kind_words SdSession = codes "sd session"
 kind_words Unanswered = codes "unanswered"
 kind_words Late = codes "late"
+kind_words Error = codes "error"
 kind_words Unasked = codes "unasked"
 kind_words Repeated = codes "repeated"
 kind_words KeyReused = codes "key reused"
@@ -31,26 +34,29 @@ kind_name kind = map (λ b. if b == 0x20 then 0x2D else b) (kind_words kind)
 -- all of them, in the order of the summary
 unfoldable pub all_kinds : List Kind
 all_kinds =
-    Malformed ∷ Reboot ∷ SdSession ∷ Unanswered ∷ Late ∷ Unasked ∷ Repeated ∷ KeyReused ∷ EventRepeated ∷ EventGap ∷ EventUnsubscribed
-    ∷ Segments ∷ SegmentsMissing ∷ OfferExpired ∷ OfferMoved ∷ Nack ∷ SubscribeUnanswered ∷ Full ∷ []
+    Malformed ∷ BadRun ∷ NoEndpoint ∷ Reboot ∷ SdSession ∷ Unanswered ∷ Late ∷ Error ∷ Unasked ∷ Repeated ∷ KeyReused ∷ EventRepeated ∷ EventGap
+    ∷ EventUnsubscribed ∷ Segments ∷ SegmentsMissing ∷ OfferExpired ∷ OfferMoved ∷ Nack ∷ SubscribeUnanswered ∷ Full ∷ []
 
 -- the number of a kind in that order, by which kinds are told apart
 abbrev pub kind_number : Kind → ℕ
 kind_number Malformed = 0
-kind_number Reboot = 1
-kind_number SdSession = 2
-kind_number Unanswered = 3
-kind_number Late = 4
-kind_number Unasked = 5
-kind_number Repeated = 6
-kind_number KeyReused = 7
-kind_number EventRepeated = 8
-kind_number EventGap = 9
-kind_number EventUnsubscribed = 10
-kind_number Segments = 11
-kind_number SegmentsMissing = 12
-kind_number OfferExpired = 13
-kind_number OfferMoved = 14
-kind_number Nack = 15
-kind_number SubscribeUnanswered = 16
-kind_number Full = 17
+kind_number BadRun = 1
+kind_number NoEndpoint = 2
+kind_number Reboot = 3
+kind_number SdSession = 4
+kind_number Unanswered = 5
+kind_number Late = 6
+kind_number Error = 7
+kind_number Unasked = 8
+kind_number Repeated = 9
+kind_number KeyReused = 10
+kind_number EventRepeated = 11
+kind_number EventGap = 12
+kind_number EventUnsubscribed = 13
+kind_number Segments = 14
+kind_number SegmentsMissing = 15
+kind_number OfferExpired = 16
+kind_number OfferMoved = 17
+kind_number Nack = 18
+kind_number SubscribeUnanswered = 19
+kind_number Full = 20

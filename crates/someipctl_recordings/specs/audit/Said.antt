@@ -21,6 +21,7 @@ use Rattle.audit_sd.specs.declared.subscriptions.Finding.{Finding as SubscribeFi
 use Rattle.audit_sd.specs.declared.subscriptions.Finding.TheVariants as subscriptions
 use Rattle.someip_audit.specs.declared.Finding.{Finding}
 use Rattle.someip_audit.specs.declared.Finding.TheVariants as findings
+use Rattle.someip_audit.specs.declared.ServiceInstance.{ServiceInstance}
 use Rattle.someip_audit.specs.declared.FellDue.{FellDue}
 use Rattle.someip_audit.specs.declared.FellDue.TheVariants as due
 use Rattle.someip_texts.specs.Words.{hex2, hex4, ids_text}
@@ -53,6 +54,10 @@ call_words service method client session = ids_text service method ∷ codes "cl
 
 abbrev pub header_words : Header → List (List ℕ)
 header_words h = call_words h.service h.method h.client h.session
+
+-- an instance of a service
+abbrev pub instance_words : ServiceInstance → List (List ℕ)
+instance_words about = ids_text about.service about.instance ∷ []
 
 -- an offer
 abbrev pub offer_words : OfferKey → List (List ℕ)
@@ -104,12 +109,15 @@ said_of_event flow session events.Full = full (codes "events")
 abbrev pub said : Finding → Said
 said (findings.Malformed fault) = says kinds.Malformed (fault_words (wire.fault_name fault) (wire.fault_place fault))
 said (findings.MalformedSd fault) = says kinds.Malformed (fault_words (sd.fault_name fault) (sd.fault_place fault))
+said (findings.BadRun about) = says kinds.BadRun (instance_words about)
+said (findings.NoEndpoint about) = says kinds.NoEndpoint (instance_words about)
 said (findings.NoTpHeader place) = says kinds.Malformed (fault_words (codes "NoHeader") place)
 said (findings.Session shown) = said_of_session shown
 said (findings.Offer key shown) = said_of_offer key shown
 said (findings.Subscription key shown) = said_of_subscription key shown
 said (findings.Receiver key shown) = said_of_receivers key.service key.eventgroup shown
 said (findings.Call h shown) = said_of_call h shown
+said (findings.Error h) = says kinds.Error (hex2 h.code.0 ∷ header_words h)
 said (findings.Event delivery shown) = said_of_receivers delivery.service delivery.event shown
 said (findings.EventSession flow session shown) = said_of_event flow session shown
 said (findings.Segment h refusal) = says kinds.Segments (error_name refusal ∷ header_words h)

@@ -71,12 +71,15 @@ subject_of_event service event _ = Some (about_event service event)
 abbrev pub subject : Finding → Option Subject
 subject (findings.Malformed fault) = Some about_nothing
 subject (findings.MalformedSd fault) = Some about_nothing
+subject (findings.BadRun about) = Some (about_service about.service)
+subject (findings.NoEndpoint about) = Some (about_service about.service)
 subject (findings.NoTpHeader place) = Some about_nothing
 subject (findings.Session shown) = subject_of_session shown
 subject (findings.Offer key shown) = subject_of_offer key.service shown
 subject (findings.Subscription key shown) = subject_of_subscription key.service shown
 subject (findings.Receiver key shown) = subject_of_receivers (about_service key.service) shown
 subject (findings.Call h shown) = subject_of_call h shown
+subject (findings.Error h) = Some (about_call h.service h.method h.client)
 subject (findings.Event delivery shown) = subject_of_receivers (about_event delivery.service delivery.event) shown
 subject (findings.EventSession flow session shown) = subject_of_event flow.service flow.event shown
 subject (findings.Segment h refusal) = Some (about_call h.service h.method h.client)

@@ -23,6 +23,7 @@ use Rattle.audit_sd.specs.declared.subscriptions.Finding.{Finding as SubscribeFi
 use Rattle.audit_sd.specs.declared.subscriptions.Finding.TheVariants as subscriptions
 use Rattle.someip_audit.specs.declared.Finding.{Finding}
 use Rattle.someip_audit.specs.declared.Finding.TheVariants as findings
+use Rattle.someip_audit.specs.declared.ServiceInstance.{ServiceInstance}
 use Rattle.someip_audit.specs.declared.FellDue.{FellDue}
 use Rattle.someip_audit.specs.declared.FellDue.TheVariants as due
 use Rattle.someipctl_io.specs.ToldLines.{text, number, id, byte, endpoint, ToldField, ToldHead, ToldLine, field}
@@ -75,6 +76,14 @@ call_fields lead service method client session =
 
 abbrev pub header_fields : List ℕ → Header → List ToldField
 header_fields lead h = call_fields lead h.service h.method h.client h.session
+
+-- the return code of an answer, and its call
+abbrev pub error_fields : Header → List ToldField
+error_fields h = field (codes " ") (codes "code") (byte h.code.0) ∷ header_fields (codes " ") h
+
+-- an instance of a service
+abbrev pub instance_fields : ServiceInstance → List ToldField
+instance_fields about = field (codes " ") (codes "service") (id about.service) ∷ field (codes ".") (codes "instance") (id about.instance) ∷ []
 
 -- an offer
 abbrev pub offer_fields : OfferKey → List ToldField
@@ -137,12 +146,15 @@ fields_of_event flow session events.Full = full_fields (codes "events")
 abbrev pub finding_fields : Finding → List ToldField
 finding_fields (findings.Malformed fault) = malformed_fields (wire.fault_name fault) (wire.fault_place fault)
 finding_fields (findings.MalformedSd fault) = malformed_fields (sd.fault_name fault) (sd.fault_place fault)
+finding_fields (findings.BadRun about) = instance_fields about
+finding_fields (findings.NoEndpoint about) = instance_fields about
 finding_fields (findings.NoTpHeader place) = malformed_fields (codes "NoHeader") place
 finding_fields (findings.Session shown) = fields_of_session shown
 finding_fields (findings.Offer key shown) = fields_of_offer key shown
 finding_fields (findings.Subscription key shown) = fields_of_subscription key shown
 finding_fields (findings.Receiver key shown) = fields_of_receivers key.service key.eventgroup shown
 finding_fields (findings.Call h shown) = fields_of_call h shown
+finding_fields (findings.Error h) = error_fields h
 finding_fields (findings.Event delivery shown) = fields_of_receivers delivery.service delivery.event shown
 finding_fields (findings.EventSession flow session shown) = fields_of_event flow session shown
 finding_fields (findings.Segment h refusal) = field (codes " ") (codes "name") (text (error_name refusal)) ∷ header_fields (codes " ") h

@@ -7,6 +7,10 @@ ghost use Rattle.someipctl_recordings.specs.audit.Kinds.{all_kinds, kind_name, k
 pub enum Kind {
     /// A message, a payload of Service Discovery or a segment that cannot be read.
     Malformed,
+    /// An entry of Service Discovery has a run that goes past the options.
+    BadRun,
+    /// An entry of Service Discovery lacks an endpoint.
+    NoEndpoint,
     /// A sender of Service Discovery began again.
     Reboot,
     /// A message of Service Discovery is not the one after the last.
@@ -15,6 +19,8 @@ pub enum Kind {
     Unanswered,
     /// An answer came late.
     Late,
+    /// A call was answered with an error.
+    Error,
     /// An answer came to no call.
     Unasked,
     /// An answer came twice.
@@ -44,7 +50,7 @@ pub enum Kind {
 }
 
 /// How many kinds there are.
-pub(crate) const KIND_COUNT: usize = 18;
+pub(crate) const KIND_COUNT: usize = 21;
 
 /// All kinds, in the order of the summary.
 #[tactic(auto, unfolding(crate::specs::audit::Kinds::all_kinds))]
@@ -53,10 +59,13 @@ pub(crate) fn kinds() -> [Kind; KIND_COUNT]
 {
     [
         Kind::Malformed,
+        Kind::BadRun,
+        Kind::NoEndpoint,
         Kind::Reboot,
         Kind::SdSession,
         Kind::Unanswered,
         Kind::Late,
+        Kind::Error,
         Kind::Unasked,
         Kind::Repeated,
         Kind::KeyReused,
@@ -80,10 +89,13 @@ impl Kind {
     {
         match self {
             Kind::Malformed => "malformed",
+            Kind::BadRun => "bad run",
+            Kind::NoEndpoint => "no endpoint",
             Kind::Reboot => "reboot",
             Kind::SdSession => "sd session",
             Kind::Unanswered => "unanswered",
             Kind::Late => "late",
+            Kind::Error => "error",
             Kind::Unasked => "unasked",
             Kind::Repeated => "repeated",
             Kind::KeyReused => "key reused",
@@ -106,10 +118,13 @@ impl Kind {
     {
         match self {
             Kind::Malformed => "malformed",
+            Kind::BadRun => "bad-run",
+            Kind::NoEndpoint => "no-endpoint",
             Kind::Reboot => "reboot",
             Kind::SdSession => "sd-session",
             Kind::Unanswered => "unanswered",
             Kind::Late => "late",
+            Kind::Error => "error",
             Kind::Unasked => "unasked",
             Kind::Repeated => "repeated",
             Kind::KeyReused => "key-reused",

@@ -5,10 +5,10 @@ ghost use Rattle.someipctl_io.specs.ToldViews.{view_field, view_head, view_said}
 ghost use Rattle.someipctl_recordings.specs.audit.AuditText.{PutsLine};
 ghost use Rattle.someipctl_recordings.specs.audit.Said.{said, said_of_call, said_of_due, said_of_event, said_of_offer};
 ghost use Rattle.someipctl_recordings.specs.audit.Said.{said_of_receivers, said_of_session, said_of_subscription};
-ghost use Rattle.someipctl_recordings.specs.audit.ToldFindings.{call_fields, due_fields, event_fields, expected_field};
+ghost use Rattle.someipctl_recordings.specs.audit.ToldFindings.{call_fields, due_fields, error_fields, event_fields, expected_field};
 ghost use Rattle.someipctl_recordings.specs.audit.ToldFindings.{fields_of_call, fields_of_event, fields_of_offer};
 ghost use Rattle.someipctl_recordings.specs.audit.ToldFindings.{fields_of_receivers, fields_of_session, fields_of_subscription};
-ghost use Rattle.someipctl_recordings.specs.audit.ToldFindings.{finding_fields, full_fields, header_fields, malformed_fields};
+ghost use Rattle.someipctl_recordings.specs.audit.ToldFindings.{finding_fields, full_fields, header_fields, instance_fields, malformed_fields};
 ghost use Rattle.someipctl_recordings.specs.audit.ToldFindings.{offer_fields, session_field, subscription_fields};
 ghost use Rattle.someipctl_recordings.specs.declared.audit.kind.Kind.TheVariants as kinds;
 
@@ -18,7 +18,7 @@ use audit_sd::offers::OfferKey;
 use audit_sd::subscriptions::SubscriptionKey;
 use audit_traffic::calls::CallFinding;
 use audit_traffic::events::EventFlow;
-use someip_audit::{FellDue, Finding};
+use someip_audit::{FellDue, Finding, ServiceInstance};
 use someip_wire::Header;
 use someipctl_io::{Buffer, CannotWrite, Field, Line, LineHead, Said, put_line};
 use std::io::Write;
@@ -48,6 +48,18 @@ pub(crate) fn put_finding<W: Write>(
             fault.name(),
             fault.place(),
         ),
+        Finding::BadRun(about) => {
+            put_said(buffer, writer, head, Kind::BadRun, &instance_fields(about))
+        }
+        Finding::NoEndpoint(about) => {
+            put_said(
+                buffer,
+                writer,
+                head,
+                Kind::NoEndpoint,
+                &instance_fields(about),
+            )
+        }
         Finding::NoTpHeader(place) => put_malformed(buffer, writer, head, "NoHeader", *place),
         Finding::Session(shown) => put_session(buffer, writer, head, shown),
         Finding::Offer(key, shown) => put_offer(buffer, writer, head, key, shown),
@@ -56,6 +68,9 @@ pub(crate) fn put_finding<W: Write>(
             put_receivers(buffer, writer, head, key.service, key.eventgroup, shown)
         }
         Finding::Call(header, shown) => put_call(buffer, writer, head, header, shown),
+        Finding::Error(header) => {
+            put_said(buffer, writer, head, Kind::Error, &error_fields(header))
+        }
         Finding::Event(delivery, shown) => {
             put_receivers(
                 buffer,
@@ -372,6 +387,15 @@ fn late_fields(millis: u64, header: &Header) -> [Field<'static>; 5]
     [late, service, method, client, session]
 }
 
+/// The return code of an answer with this header, and its call.
+fn error_fields(header: &Header) -> [Field<'static>; 5]
+    ensures { map view_field result ≡ error_fields header.now }
+{
+    let [service, method, client, session] = header_fields(" ", header);
+    let code = field_of(" ", "code", Said::Byte(header.code.0));
+    [code, service, method, client, session]
+}
+
 /// Why a segment with this header is refused.
 fn segment_fields<'n>(name: &'n str, header: &Header) -> [Field<'n>; 5]
     ensures { map view_field result
@@ -380,6 +404,16 @@ fn segment_fields<'n>(name: &'n str, header: &Header) -> [Field<'n>; 5]
     let [service, method, client, session] = header_fields(" ", header);
     let refusal = field_of(" ", "name", Said::Text(name));
     [refusal, service, method, client, session]
+}
+
+/// An instance of a service.
+fn instance_fields(about: &ServiceInstance) -> [Field<'static>; 2]
+    ensures { map view_field result ≡ instance_fields about.now }
+{
+    [
+        field_of(" ", "service", Said::Id(about.service)),
+        field_of(".", "instance", Said::Id(about.instance)),
+    ]
 }
 
 /// An offer.

@@ -90,6 +90,9 @@ pub(crate) fn subject_of(finding: &Finding) -> Option<Subject>
         | Finding::MalformedSd(_)
         | Finding::NoTpHeader(_)
         | Finding::Session(_) => Some(Subject::nothing()),
+        Finding::BadRun(about) | Finding::NoEndpoint(about) => {
+            Some(Subject::service(about.service))
+        }
         Finding::Offer(key, _) => Some(Subject::service(key.service)),
         Finding::Subscription(key, _) => Some(Subject::service(key.service)),
         Finding::Receiver(key, _) => Some(Subject::service(key.service)),
@@ -98,7 +101,7 @@ pub(crate) fn subject_of(finding: &Finding) -> Option<Subject>
         }
         Finding::Event(delivery, _) => Some(Subject::event(delivery.service, delivery.event)),
         Finding::EventSession(flow, _, _) => Some(Subject::event(flow.service, flow.event)),
-        Finding::Segment(header, _) => {
+        Finding::Error(header) | Finding::Segment(header, _) => {
             Some(Subject::call(header.service, header.method, header.client))
         }
     }
