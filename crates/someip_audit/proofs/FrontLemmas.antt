@@ -31,12 +31,12 @@ use Rattle.someip_wire.specs.Reading.{items_of}
 use Rattle.someip_audit.specs.Audits.{Seen, datagram_shown, seen_work, without_passed}
 use Rattle.someip_audit.specs.WatchedEndpoints.{is_at_discovery, is_looked_at}
 use Rattle.someip_audit.specs.AnyShown.{any_shown, in_datagram, is_sd, item_len, item_shown, items_shown, payload_shown}
-use Rattle.someip_audit.specs.MessageShown.{call_shown, delivery, event_flow, event_seen, event_shown, flow_shown, has_no_tp_header, is_event, message_shown, piece_shown, segment_at, segment_held, segment_shown, segment_told, whole_shown}
+use Rattle.someip_audit.specs.MessageShown.{call_shown, code_shown, delivery, event_flow, event_seen, event_shown, flow_shown, has_no_tp_header, is_event, message_shown, piece_shown, segment_at, segment_held, segment_shown, segment_told, told_of_code, whole_shown}
 use Rattle.audit_sd.specs.declared.subscriptions.entry.SubscribeEntry.{SubscribeEntry}
 use Rattle.audit_sd.specs.declared.receivers.entry.ReceiverEntry.{ReceiverEntry}
 use Rattle.someip_audit.specs.declared.finding.Finding.{Finding}
 use Rattle.someip_audit.specs.SdEntries.{named_endpoint, offer_entry, receiver_entry, sd_message, subscribe_entry, withdrawn_offer}
-use Rattle.someip_audit.specs.SdShown.{IsBegun, IsFront, Work, changed, endpoint_shown, entries_shown, entry_shown, good_shown, group_shown, head_shown, offer_shown, receiver_shown, sd_shown, service_shown, session_shown, subscribe_shown, with_told, withdrawn, working}
+use Rattle.someip_audit.specs.SdShown.{IsBegun, IsFront, Work, changed, endpoint_shown, entries_shown, entry_shown, good_shown, group_shown, head_shown, offer_shown, options_shown, receiver_shown, sd_shown, service_shown, session_shown, subscribe_shown, taken_shown, told_of_options, with_told, withdrawn, working}
 
 nothing_more : (xs : List Finding) → xs ++ [] ≡ xs
 nothing_more [] = refl
@@ -94,9 +94,14 @@ good_front now origin head endpoint work =
     let learnt : Work = endpoint_shown (named_endpoint head endpoint) work in
     front_further work.told learnt.told _ (endpoint_front (named_endpoint head endpoint) work) (head_front now origin head endpoint learnt)
 
+pub taken_front : (now : ℕ) (origin : Origin) (entry : ReadValue) (work : Work) → IsFront work.told (taken_shown now origin entry work).told
+taken_front now origin (good entry) work = good_front now origin entry.head (first_udp_endpoint (options_of entry)) work
+taken_front now origin (bad_run head) work = head_front now origin head None work
+
 pub entry_front : (now : ℕ) (origin : Origin) (entry : ReadValue) (work : Work) → IsFront work.told (entry_shown now origin entry work).told
-entry_front now origin (good entry) work = good_front now origin entry.head (first_udp_endpoint (options_of entry)) work
-entry_front now origin (bad_run head) work = head_front now origin head None work
+entry_front now origin entry work =
+    let noted : Work = options_shown entry work in
+    front_further work.told noted.told _ (front_told (told_of_options entry) work.told) (taken_front now origin entry noted)
 
 pub entries_front : (now : ℕ) (origin : Origin) (entries : List ReadValue) (work : Work) → IsFront work.told (entries_shown now origin entries work).told
 entries_front now origin [] work = front_same work.told
@@ -143,6 +148,15 @@ group_begun now entry endpoint held started mid told more new starts is same =
     let begun : Work = changed entry.key (working held told) in
     let at : more ≡ (subscribe_shown now entry begun).told = ap (λ (w : Work). w.told) (is ∙ ap (λ h. subscribe_shown now entry (working h told)) starts) in
     rw (same, at) (subscribe_front now entry begun, receiver_front now (receiver_entry entry endpoint) (subscribe_shown now entry begun))
+
+-- what the options of an entry show was told, and then some of the entry was shown
+pub entry_begun : (now : ℕ) (origin : Origin) (entry : ReadValue) (shown : Option Finding) (held : Held) (told more new : List Finding)
+    → shown ≡ told_of_options entry → more ≡ with_told shown told
+    → IsBegun more new (taken_shown now origin entry (working held more)).told
+    → IsBegun told new (entry_shown now origin entry (working held told)).told
+entry_begun now origin entry shown held told more new shows is begun =
+    let at : more ≡ with_told (told_of_options entry) told = is ∙ ap (λ finding. with_told finding told) shows in
+    begun_later told (with_told (told_of_options entry) told) new _ (front_told (told_of_options entry) told) (rw at at begun)
 
 -- an endpoint was learnt, and then some of the entry was shown
 pub good_begun : (now : ℕ) (origin : Origin) (head : EntryHead) (endpoint named : Option SocketAddrV4) (held mid : Held) (told more new : List Finding)
@@ -198,16 +212,22 @@ flow_front origin header work = cases (is_notification header.kind)
     cases true = front_told _ work.told
     cases false = front_same work.told
 
--- its call was shown, and who is subscribed to its event
-called_front : (now : ℕ) (origin : Origin) (header : Header) (payload : List ℕ) (work : Work)
-    → IsFront work.told (event_shown now origin header (call_shown now origin header payload work)).told
-called_front now origin header payload work =
-    front_further work.told (call_shown now origin header payload work).told _ (front_told _ work.told) (event_front now origin header (call_shown now origin header payload work))
+-- its call was shown, and what its return code shows
+coded_front : (now : ℕ) (origin : Origin) (header : Header) (payload : List ℕ) (work : Work) → IsFront work.told (code_shown header (call_shown now origin header payload work)).told
+coded_front now origin header payload work =
+    let called : Work = call_shown now origin header payload work in
+    front_further work.told called.told _ (front_told _ work.told) (front_told (told_of_code header) called.told)
+
+-- who is subscribed to its event, and what it shows by its session
+rest_front : (now : ℕ) (origin : Origin) (header : Header) (work : Work) → IsFront work.told (flow_shown origin header (event_shown now origin header work)).told
+rest_front now origin header work =
+    let heard : Work = event_shown now origin header work in
+    front_further work.told heard.told _ (event_front now origin header work) (flow_front origin header heard)
 
 pub whole_front : (now : ℕ) (origin : Origin) (header : Header) (payload : List ℕ) (work : Work) → IsFront work.told (whole_shown now origin header payload work).told
 whole_front now origin header payload work =
-    let heard : Work = event_shown now origin header (call_shown now origin header payload work) in
-    front_further work.told heard.told _ (called_front now origin header payload work) (flow_front origin header heard)
+    let coded : Work = code_shown header (call_shown now origin header payload work) in
+    front_further work.told coded.told _ (coded_front now origin header payload work) (rest_front now origin header coded)
 
 pub segment_told_front : (now : ℕ) (origin : Origin) (header : Header) (told : Option (Result MessageValue TpError)) (work : Work) → IsFront work.told (segment_told now origin header told work).told
 segment_told_front now origin header None work = front_same work.told
@@ -245,18 +265,36 @@ pub whole_begun : (now : ℕ) (origin : Origin) (header : Header) (payload : Lis
     → working mid more ≡ call_shown now origin header payload (working held told) → new ≡ more → IsBegun told new (whole_shown now origin header payload (working held told)).told
 whole_begun now origin header payload held told mid more new is same =
     let called : Work = call_shown now origin header payload (working held told) in
-    let heard : Work = event_shown now origin header called in
+    let coded : Work = code_shown header called in
     let at : more ≡ called.told = ap (λ (w : Work). w.told) is in
-    rw (same, at) (front_told _ told, front_further called.told heard.told _ (event_front now origin header called) (flow_front origin header heard))
+    rw (same, at) (front_told _ told, front_further called.told coded.told _ (front_told (told_of_code header) called.told) (rest_front now origin header coded))
+
+-- what its return code shows was told too
+coded_same : (now : ℕ) (origin : Origin) (header : Header) (payload : List ℕ) (shown : Option Finding) (held : Held) (told : List Finding) (mid : Held) (more noted : List Finding)
+    → working mid more ≡ call_shown now origin header payload (working held told) → shown ≡ told_of_code header → noted ≡ with_told shown more
+    → working mid noted ≡ code_shown header (call_shown now origin header payload (working held told))
+coded_same now origin header payload shown held told mid more noted is shows notes =
+    ap (λ all. working mid all) (notes ∙ ap (λ finding. with_told finding more) shows) ∙ ap (code_shown header) is
+
+-- and nothing more
+pub coded_begun : (now : ℕ) (origin : Origin) (header : Header) (payload : List ℕ) (shown : Option Finding) (held : Held) (told : List Finding) (mid : Held) (more noted new : List Finding)
+    → working mid more ≡ call_shown now origin header payload (working held told) → shown ≡ told_of_code header → noted ≡ with_told shown more → new ≡ noted
+    → IsBegun told new (whole_shown now origin header payload (working held told)).told
+coded_begun now origin header payload shown held told mid more noted new is shows notes same =
+    let coded : Work = code_shown header (call_shown now origin header payload (working held told)) in
+    let at : noted ≡ coded.told = ap (λ (w : Work). w.told) (coded_same now origin header payload shown held told mid more noted is shows notes) in
+    rw (same, at) (coded_front now origin header payload (working held told), rest_front now origin header coded)
 
 -- and who is subscribed to its event, and nothing more
-pub heard_begun : (now : ℕ) (origin : Origin) (header : Header) (payload : List ℕ) (held : Held) (told : List Finding) (mid late : Held) (more most new : List Finding)
-    → working mid more ≡ call_shown now origin header payload (working held told) → working late most ≡ event_shown now origin header (working mid more) → new ≡ most
+pub heard_begun : (now : ℕ) (origin : Origin) (header : Header) (payload : List ℕ) (shown : Option Finding) (held : Held) (told : List Finding) (mid late : Held) (more noted most new : List Finding)
+    → working mid more ≡ call_shown now origin header payload (working held told) → shown ≡ told_of_code header → noted ≡ with_told shown more
+    → working late most ≡ event_shown now origin header (working mid noted) → new ≡ most
     → IsBegun told new (whole_shown now origin header payload (working held told)).told
-heard_begun now origin header payload held told mid late more most new is hears same =
-    let heard : Work = event_shown now origin header (call_shown now origin header payload (working held told)) in
-    let at : most ≡ heard.told = ap (λ (w : Work). w.told) (hears ∙ ap (event_shown now origin header) is) in
-    rw (same, at) (called_front now origin header payload (working held told), flow_front origin header heard)
+heard_begun now origin header payload shown held told mid late more noted most new is shows notes hears same =
+    let coded : Work = code_shown header (call_shown now origin header payload (working held told)) in
+    let heard : Work = event_shown now origin header coded in
+    let at : most ≡ heard.told = ap (λ (w : Work). w.told) (hears ∙ ap (event_shown now origin header) (coded_same now origin header payload shown held told mid more noted is shows notes)) in
+    rw (same, at) (front_further told coded.told _ (coded_front now origin header payload (working held told)) (event_front now origin header coded), flow_front origin header heard)
 
 pub payload_front : (now : ℕ) (origin : Origin) (place session : ℕ) (read : Result SdValue SdError) (work : Work) → IsFront work.told (payload_shown now origin place session read work).told
 payload_front now origin place session (Ok sd) work = sd_front now origin session sd work

@@ -17,19 +17,18 @@ use Rattle.someip_wire.specs.declared.error.WireError.{WireError}
 use Rattle.someip_wire.specs.declared.header.Header.{Header}
 use Rattle.someip_wire.specs.Discovery.{is_discovery, is_notification}
 use Rattle.someip_wire.specs.Kinds.{has_tp_flag}
-use Rattle.someip_wire.specs.Reading.{items_of}
 use Rattle.someip_wire.specs.Spelling.{MessageValue}
 use Rattle.audit_sd.specs.declared.sessions.finding.Finding.{Finding as SessionFinding}
 use Rattle.audit_sd.specs.declared.sessions.finding.Finding.TheVariants as sessions
 use Rattle.audit_sd.specs.declared.sessions.message.SdMessage.{SdMessage}
 use Rattle.audit_sd.specs.sessions.SessionBooks as session_book
 use Rattle.audit_traffic.specs.segments.SegmentBooks as segments
-use Rattle.someip_audit.specs.AnyShown.{any_shown, is_sd, item_len, item_shown, items_shown, payload_shown}
+use Rattle.someip_audit.specs.AnyShown.{is_sd, item_len, item_shown, items_shown, payload_shown}
 use Rattle.someip_audit.specs.BooksHeld.{Held}
 use Rattle.someip_audit.specs.Learning.{learnt_of, learnt_of_item, learnt_of_items, learnt_of_payload, named_by, once_named_by}
-use Rattle.someip_audit.specs.MessageShown.{call_shown, event_shown, flow_shown, has_no_tp_header, is_event, message_shown, piece_shown, segment_at, segment_held, segment_shown, segment_told, whole_shown}
+use Rattle.someip_audit.specs.MessageShown.{call_shown, code_shown, event_shown, flow_shown, has_no_tp_header, is_event, message_shown, piece_shown, segment_at, segment_held, segment_shown, segment_told, whole_shown}
 use Rattle.someip_audit.specs.SdEntries.{named_endpoint, sd_message}
-use Rattle.someip_audit.specs.SdShown.{Work, after_session, endpoint_shown, entries_shown, entry_shown, good_shown, head_shown, sd_shown, service_shown, session_shown}
+use Rattle.someip_audit.specs.SdShown.{Work, after_session, endpoint_shown, entries_shown, entry_shown, head_shown, options_shown, service_shown, session_shown, taken_shown}
 use Rattle.someip_audit.specs.WatchedEndpoints.{Watch, is_at_discovery}
 
 -- what was learnt, of what is worked on
@@ -51,7 +50,8 @@ flow_same origin header work = if_same (is_notification header.kind) _ work (lea
 
 whole_same : (now : ℕ) (origin : Origin) (header : Header) (payload : List ℕ) (work : Work) → learnt (whole_shown now origin header payload work) ≡ learnt work
 whole_same now origin header payload work =
-    flow_same origin header (event_shown now origin header (call_shown now origin header payload work)) ∙ event_same now origin header (call_shown now origin header payload work)
+    let coded : Work = code_shown header (call_shown now origin header payload work) in
+    flow_same origin header (event_shown now origin header coded) ∙ event_same now origin header coded
 
 told_same : (now : ℕ) (origin : Origin) (header : Header) (told : Option (Result MessageValue TpError)) (work : Work) → learnt (segment_told now origin header told work) ≡ learnt work
 told_same now origin header None work = refl
@@ -91,11 +91,14 @@ endpoint_learnt : (endpoint : Option SocketAddrV4) (work : Work) → learnt (end
 endpoint_learnt None work = refl
 endpoint_learnt (Some endpoint) work = refl
 
-entry_learnt : (now : ℕ) (origin : Origin) (entry : ReadValue) (work : Work) → learnt (entry_shown now origin entry work) ≡ once_named_by (named_by entry) (learnt work)
-entry_learnt now origin (good entry) work =
+taken_learnt : (now : ℕ) (origin : Origin) (entry : ReadValue) (work : Work) → learnt (taken_shown now origin entry work) ≡ once_named_by (named_by entry) (learnt work)
+taken_learnt now origin (good entry) work =
     let named = named_endpoint entry.head (first_udp_endpoint (options_of entry)) in
     head_same now origin entry.head (first_udp_endpoint (options_of entry)) (endpoint_shown named work) ∙ endpoint_learnt named work
-entry_learnt now origin (bad_run head) work = head_same now origin head None work
+taken_learnt now origin (bad_run head) work = head_same now origin head None work
+
+entry_learnt : (now : ℕ) (origin : Origin) (entry : ReadValue) (work : Work) → learnt (entry_shown now origin entry work) ≡ once_named_by (named_by entry) (learnt work)
+entry_learnt now origin entry work = taken_learnt now origin entry (options_shown entry work)
 
 entries_learnt : (now : ℕ) (origin : Origin) (entries : List ReadValue) (work : Work) → learnt (entries_shown now origin entries work) ≡ learnt_of entries (learnt work)
 entries_learnt now origin [] work = refl

@@ -1,14 +1,14 @@
 -- Entries of Service Discovery, and what falls due, that the laws speak of as examples.
-use Rattle.std.specs.Prelude.{ℕ, false, List, [], ◌∷◌, ◌++◌, Option}
-use Rattle.std.specs.FinMap as finite
+use Rattle.std.specs.Prelude.{ℕ, false, List, [], ◌∷◌, ◌++◌}
 use Rattle.sd_wire.specs.declared.entry.EventgroupEntry.{EventgroupEntry}
 use Rattle.sd_wire.specs.declared.entry.EventgroupKind.{EventgroupKind}
-use Rattle.sd_wire.specs.declared.entry.EntryHead.TheVariants.{Service}
+use Rattle.sd_wire.specs.declared.entry.EntryHead.TheVariants.{Service, Eventgroup}
 use Rattle.sd_wire.specs.declared.entry.ServiceEntry.{ServiceEntry}
 use Rattle.sd_wire.specs.declared.entry.ServiceKind.{ServiceKind}
 use Rattle.sd_wire.specs.declared.option.SdOption.TheVariants.{Endpoint4}
 use Rattle.sd_wire.specs.contents.Values.{ReadValue, good}
 use Rattle.someip_wire.specs.declared.header.Header.{Header}
+use Rattle.someip_wire.specs.declared.header.MessageType.{MessageType}
 use Rattle.someip_wire.specs.declared.header.MessageType.TheVariants as kinds
 use Rattle.someip_tables.specs.declared.deadline.Deadline.TheVariants.{At}
 use Rattle.audit_traffic.specs.calls.Scenes.{call_5, header_with, numbered}
@@ -19,6 +19,7 @@ use Rattle.someip_tables.specs.declared.hashed.origin.Origin.{Origin}
 use Rattle.someip_audit.specs.SdShown.{Work}
 use Rattle.someip_audit.specs.WatchedEndpoints.{Watch, watch_begun}
 use Rattle.someip_audit.specs.declared.finding.Finding.{Finding}
+use Rattle.someip_audit.specs.declared.finding.ServiceInstance.{ServiceInstance}
 use Rattle.someip_audit.specs.declared.fell_due.FellDue.{FellDue}
 use Rattle.someip_audit.specs.declared.fell_due.FellDue.TheVariants as due
 
@@ -30,9 +31,25 @@ service_entry kind ttl = record { kind = kind; service = 4096; instance = 1; maj
 abbrev pub with_endpoint : ServiceEntry → ℕ → ℕ → ReadValue
 with_endpoint entry n port = good (record { head = Service entry; first = Endpoint4 (record { socket = endpoint n port; protocol = record { 0 = 0x11 } }) ∷ []; second = [] })
 
+-- without options
+abbrev pub without_endpoint : ServiceEntry → ReadValue
+without_endpoint entry = good (record { head = Service entry; first = []; second = [] })
+
+-- the instance that these entries are about
+abbrev pub instance_1 : ServiceInstance
+instance_1 = record { service = 4096; instance = 1 }
+
 -- an entry of this kind about its eventgroup 5
 abbrev pub group_entry : EventgroupKind → ℕ → EventgroupEntry
 group_entry kind ttl = record { kind = kind; service = 4096; instance = 1; major = 1; ttl = ttl; counter = 0; eventgroup = 5 }
+
+-- without options
+abbrev pub group_without : EventgroupKind → ℕ → ReadValue
+group_without kind ttl = good (record { head = Eventgroup (group_entry kind ttl); first = []; second = [] })
+
+-- the header of a message of this type with this return code
+abbrev pub coded : MessageType → ℕ → Header
+coded kind code = record (header_with 5 kind) { code = record { 0 = code } }
 
 -- the call with session 5 that had no answer until a moment
 abbrev pub call_due : ℕ → FellDue

@@ -9,6 +9,7 @@ ghost use Rattle.audit_traffic.specs.events.EventTables.{Events};
 ghost use Rattle.someip_audit.specs.Audits.{AuditState, Audits, Report, Seen, datagram_shown, each_disturbed};
 ghost use Rattle.std.specs.FinMap as finite;
 ghost use Rattle.std.specs.Ordering.{is_lt};
+ghost use Rattle.sd_wire.specs.contents.Values.{bad_run};
 ghost use Rattle.sd_wire.specs.declared.entry.ServiceKind.TheVariants.{Find, Offer};
 ghost use Rattle.sd_wire.specs.declared.entry.EntryHead.TheVariants.{Eventgroup, Service};
 ghost use Rattle.sd_wire.specs.declared.entry.EventgroupKind.TheVariants as groups;
@@ -27,12 +28,12 @@ ghost use Rattle.someip_audit.specs.WatchedEndpoints.{Watch, is_at_learnt, is_lo
 ghost use Rattle.someip_audit.specs.SdScenes.{once_told, segment_with, sent_from, at_40000};
 ghost use Rattle.someip_audit.specs.BooksHeld.{Held};
 ghost use Rattle.someip_audit.specs.FellDues.{fell_cmp};
-ghost use Rattle.someip_audit.specs.MessageShown.{event_flow, event_shown, flow_shown, is_event, message_shown};
+ghost use Rattle.someip_audit.specs.MessageShown.{event_flow, event_shown, flow_shown, is_event, message_shown, told_of_code};
 ghost use Rattle.someip_audit.specs.SdEntries.{names_endpoint, offer_entry, subscribe_entry, withdrawn_offer};
 ghost use Rattle.someip_audit.specs.SdScenes.{call_due, group_entry, offer_due, sd_header, service_entry};
-ghost use Rattle.someip_audit.specs.SdScenes.{subscribe_due, with_endpoint};
-ghost use Rattle.someip_audit.specs.SdShown.{Work, after_session, begun_again, endpoint_shown, entry_shown, offer_shown};
-ghost use Rattle.someip_audit.specs.SdShown.{withdrawn};
+ghost use Rattle.someip_audit.specs.SdScenes.{coded, group_without, instance_1, subscribe_due, with_endpoint, without_endpoint};
+ghost use Rattle.someip_audit.specs.SdShown.{Work, after_session, begun_again, endpoint_shown, entry_shown, head_shown, offer_shown};
+ghost use Rattle.someip_audit.specs.SdShown.{told_of_options, withdrawn};
 
 /// In which order what fell due is told, by example: by deadline; at one deadline calls, then offers, then
 /// Subscribes; and of one book by key.
@@ -68,6 +69,41 @@ pub fn entries_show_what_the_books_tell()
         (offer_entry (from_node 1 1) (service_entry Offer 0) (Some (endpoint 1 40000))) work) }
     ensures found { (work : Work) → entry_shown 100 (from_node 1 1)
         (with_endpoint (service_entry Find 3) 1 40000) work ≡ work }
+{}
+
+/// What the options of an entry show, by example: of an Offer, a Subscribe and a StopSubscribe that none is an
+/// IPv4 endpoint over UDP; of a StopOffer, a Find and an Ack nothing; and of any entry that one of its runs goes
+/// past the options.
+pub fn entries_need_endpoints()
+    ensures offer { told_of_options (without_endpoint (service_entry Offer 3)) ≡ Some (findings.NoEndpoint instance_1) }
+    ensures with_one { told_of_options (with_endpoint (service_entry Offer 3) 1 40000) ≡ None }
+    ensures stop_offer { told_of_options (without_endpoint (service_entry Offer 0)) ≡ None }
+    ensures find { told_of_options (without_endpoint (service_entry Find 3)) ≡ None }
+    ensures subscribe { told_of_options (group_without groups.Subscribe 3) ≡ Some (findings.NoEndpoint instance_1) }
+    ensures stop_subscribe { told_of_options (group_without groups.Subscribe 0)
+        ≡ Some (findings.NoEndpoint instance_1) }
+    ensures ack { told_of_options (group_without groups.Ack 3) ≡ None }
+    ensures bad_run { told_of_options (bad_run (Service (service_entry Find 3)))
+        ≡ Some (findings.BadRun instance_1) }
+{}
+
+/// What an entry shows whose run goes past the options, whatever the books hold: that first, and then what it
+/// shows without an endpoint.
+pub fn bad_runs_are_told_first()
+    ensures { (work : Work) → entry_shown 100 (from_node 1 1) (bad_run (Service (service_entry Offer 3))) work
+        ≡ head_shown 100 (from_node 1 1) (Service (service_entry Offer 3)) None
+        (once_told (findings.BadRun instance_1) work) }
+{}
+
+/// What a message shows by its return code, by example: an ERROR and a RESPONSE with another code than 00 an
+/// error; a RESPONSE with code 00 nothing, and no REQUEST or event.
+pub fn answers_with_other_codes_are_errors()
+    ensures error { told_of_code (coded kinds.Error 3) ≡ Some (findings.Error (coded kinds.Error 3)) }
+    ensures response { told_of_code (coded kinds.Response 1) ≡ Some (findings.Error (coded kinds.Response 1)) }
+    ensures ok { told_of_code (coded kinds.Response 0) ≡ None }
+    ensures error_ok { told_of_code (coded kinds.Error 0) ≡ None }
+    ensures request { told_of_code (coded kinds.Request 3) ≡ None }
+    ensures event { told_of_code (coded kinds.Notification 3) ≡ None }
 {}
 
 /// What a finding of the sessions ends: a reboot all that the sender offered and subscribed, and what was

@@ -1,5 +1,4 @@
 use Rattle.std.proofs.Common.{◌+◌, ap, map, drop, sym, ◌∙◌}
-use Rattle.std.proofs.lemmas.List.{drop_all}
 use Rattle.sd_wire.specs.contents.Values.{view_read}
 use Rattle.someip_audit.specs.Learning.{learnt_of}
 use Rattle.someip_audit.proofs.FrontLemmas.{next_left}
