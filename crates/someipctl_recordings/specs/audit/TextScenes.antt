@@ -3,7 +3,7 @@ use Rattle.std.specs.Prelude.{ℕ, [], ◌∷◌, None, Some, false}
 use Rattle.recording.specs.declared.Time.{Time}
 use Rattle.std.specs.declared.net.socket_addr.SocketAddrV4.{SocketAddrV4}
 use Rattle.someip_wire.specs.declared.Header.{Header}
-use Rattle.someip_wire.specs.declared.MessageType.TheVariants.{Request}
+use Rattle.someip_wire.specs.declared.MessageType.TheVariants.{Error, Request}
 use Rattle.someip_tables.specs.declared.Deadline.TheVariants.{At}
 use Rattle.someip_tables.specs.declared.hashed.Origin.{Origin}
 use Rattle.audit_traffic.specs.declared.calls.Unanswered.{Unanswered as UnansweredCall}
@@ -14,6 +14,7 @@ use Rattle.audit_sd.specs.declared.receivers.Delivery.{Delivery}
 use Rattle.audit_traffic.specs.declared.segments.Missing.{Missing}
 use Rattle.audit_sd.specs.declared.subscriptions.SubscriptionKey.{SubscriptionKey}
 use Rattle.audit_sd.specs.declared.subscriptions.Unanswered.{Unanswered as UnansweredSubscribe}
+use Rattle.someip_audit.specs.declared.ServiceInstance.{ServiceInstance}
 use Rattle.someipctl_io.specs.declared.form.Form.TheVariants.{Plain}
 use Rattle.someipctl_show.specs.declared.services.AskedService.{AskedService}
 use Rattle.someipctl_recordings.specs.Wanted.{WantedValue, all_wanted}
@@ -29,6 +30,14 @@ origin_1 = record { numbers = record { datagram = 12; frame = 14 }; from = socke
 
 abbrev pub header_1 : Header
 header_1 = record { service = 0x1234; method = 0x0421; client = 0x0101; session = 2; interface = 1; kind = Request; code = record { 0 = 0 } }
+
+-- the answer to it that its method is not known
+abbrev pub error_1 : Header
+error_1 = record header_1 { kind = Error; code = record { 0 = 3 } }
+
+-- the instance of its service
+abbrev pub instance_1 : ServiceInstance
+instance_1 = record { service = 0x1234; instance = 1 }
 
 abbrev pub flow_1 : EventFlow
 flow_1 = record { sender = socket 1 30509; service = 0x1234; event = 0x8001; receiver = socket 2 40000 }

@@ -29,7 +29,7 @@ ghost use Rattle.someipctl_recordings.specs.audit.Said.{said, said_of_due, said_
 ghost use Rattle.someipctl_recordings.specs.audit.SeenIn.{Tells, looked_of};
 ghost use Rattle.someipctl_recordings.specs.audit.Subjects.{ChoosesNone};
 ghost use Rattle.someipctl_recordings.specs.audit.TextScenes.{before, method_of, of_address, of_client, of_services, whole_service};
-ghost use Rattle.someipctl_recordings.specs.audit.TextScenes.{event_1, flow_1, header_1, key_1, offer_1, origin_1};
+ghost use Rattle.someipctl_recordings.specs.audit.TextScenes.{error_1, event_1, flow_1, header_1, instance_1, key_1, offer_1, origin_1};
 ghost use Rattle.someipctl_recordings.specs.audit.TextScenes.{expired_1, missing_1, subscribe_1, unanswered_1};
 
 /// What the lines of findings say, by example.
@@ -38,12 +38,16 @@ pub fn findings_have_texts()
         ≡ codes " malformed Truncated at 47\n" }
     ensures malformed_sd { said_text (said (findings.MalformedSd (sd.EntriesLength 20)))
         ≡ codes " malformed EntriesLength at 20\n" }
+    ensures bad_run { said_text (said (findings.BadRun instance_1)) ≡ codes " bad run 1234.0001\n" }
+    ensures no_endpoint { said_text (said (findings.NoEndpoint instance_1)) ≡ codes " no endpoint 1234.0001\n" }
     ensures no_header { said_text (said (findings.NoTpHeader 16)) ≡ codes " malformed NoHeader at 16\n" }
     ensures reboot { said_text (said (findings.Session sessions.Reboot)) ≡ codes " reboot\n" }
     ensures session { said_text (said (findings.Session (sessions.NotNext (record { session = 7; reboot = true })
         (record { session = 6; reboot = true })))) ≡ codes " sd session 0007 expected 0006\n" }
     ensures late { said_text (said (findings.Call header_1 (calls.Late 300)))
         ≡ codes " late 300 ms 1234.0421 client 0101 session 0002\n" }
+    ensures error { said_text (said (findings.Error error_1))
+        ≡ codes " error 03 1234.0421 client 0101 session 0002\n" }
     ensures unasked { said_text (said (findings.Call header_1 calls.Unasked))
         ≡ codes " unasked 1234.0421 client 0101 session 0002\n" }
     ensures repeated { said_text (said (findings.Call header_1 calls.Repeated))
@@ -109,6 +113,12 @@ pub fn findings_are_objects()
         ≡ codes "{\"kind\":\"late\",\"datagram\":12,\"time\":null,\"from\":\"192.168.0.1:40000\",\"to\":\"192.168.0.2:30490\",\"ms\":300,\"service\":\"1234\",\"method\":\"0421\",\"client\":\"0101\",\"session\":\"0002\"}\n" }
     ensures malformed { finding_line Json false None origin_1 (findings.Malformed (wire.Truncated 47))
         ≡ codes "{\"kind\":\"malformed\",\"datagram\":12,\"time\":null,\"from\":\"192.168.0.1:40000\",\"to\":\"192.168.0.2:30490\",\"name\":\"Truncated\",\"at\":47}\n" }
+    ensures bad_run { finding_line Json false None origin_1 (findings.BadRun instance_1)
+        ≡ codes "{\"kind\":\"bad-run\",\"datagram\":12,\"time\":null,\"from\":\"192.168.0.1:40000\",\"to\":\"192.168.0.2:30490\",\"service\":\"1234\",\"instance\":\"0001\"}\n" }
+    ensures no_endpoint { finding_line Json false None origin_1 (findings.NoEndpoint instance_1)
+        ≡ codes "{\"kind\":\"no-endpoint\",\"datagram\":12,\"time\":null,\"from\":\"192.168.0.1:40000\",\"to\":\"192.168.0.2:30490\",\"service\":\"1234\",\"instance\":\"0001\"}\n" }
+    ensures error { finding_line Json false None origin_1 (findings.Error error_1)
+        ≡ codes "{\"kind\":\"error\",\"datagram\":12,\"time\":null,\"from\":\"192.168.0.1:40000\",\"to\":\"192.168.0.2:30490\",\"code\":\"03\",\"service\":\"1234\",\"method\":\"0421\",\"client\":\"0101\",\"session\":\"0002\"}\n" }
     ensures gap { finding_line Json false None origin_1 (findings.EventSession flow_1 9 (events.Gap 9 7))
         ≡ codes "{\"kind\":\"event-gap\",\"datagram\":12,\"time\":null,\"from\":\"192.168.0.1:40000\",\"to\":\"192.168.0.2:30490\",\"service\":\"1234\",\"event\":\"8001\",\"session\":\"0009\",\"expected\":\"0007\"}\n" }
     ensures full { finding_line Json false None origin_1 (findings.Event event_1 receivers.Full)
@@ -120,7 +130,7 @@ pub fn findings_are_objects()
 {}
 
 /// Which findings are told, by example: of a service, a method, a client, an address and a time exactly those that
-/// name it; an Offer names no method; a reboot names no service; and that a book is full is always told.
+/// name it; an Offer and what lacks an endpoint name no method, and an error names its call; a reboot names no service; and that a book is full is always told.
 pub fn findings_are_told_by_what_they_name()
     ensures service { is_due_told (of_services (whole_service 0x1234)) (due.Unanswered unanswered_1) ≡ true }
     ensures other_service { is_due_told (of_services (whole_service 0x1235)) (due.Unanswered unanswered_1) ≡ false }
@@ -134,6 +144,13 @@ pub fn findings_are_told_by_what_they_name()
         (findings.Offer offer_1 offers.Full) ≡ true }
     ensures moved { is_found_told (of_services (whole_service 0x1235)) None origin_1
         (findings.Offer offer_1 offers.Moved) ≡ false }
+    ensures bad_run { is_found_told (of_services (whole_service 0x1234)) None origin_1 (findings.BadRun instance_1)
+        ≡ true }
+    ensures no_endpoint { is_found_told (of_services (method_of 0x1234 0x0421)) None origin_1
+        (findings.NoEndpoint instance_1) ≡ false }
+    ensures error { is_found_told (of_services (method_of 0x1234 0x0421)) None origin_1 (findings.Error error_1)
+        ≡ true }
+    ensures error_of_client { is_found_told (of_client 0x0101) None origin_1 (findings.Error error_1) ≡ true }
     ensures client { is_due_told (of_client 0x0101) (due.Unanswered unanswered_1) ≡ true }
     ensures other_client { is_due_told (of_client 0x0102) (due.Unanswered unanswered_1) ≡ false }
     ensures address { is_due_told (of_address 0xC0A80001) (due.Unanswered unanswered_1) ≡ true }
@@ -163,6 +180,12 @@ pub fn a_summary_counts_by_kind()
         (found origin_1 (findings.Session sessions.Full) ∷ found origin_1 (findings.Session sessions.Reboot)
         ∷ found origin_1 findings.EndpointsFull ∷ [])
         ≡ codes "audited 3 datagrams, 4 messages, 3 findings\nreboot 1\nfull 2\n" }
+    ensures in_order { summary_text Plain (record { datagrams = 3; messages = 4 })
+        (found origin_1 (findings.Call header_1 calls.Unasked) ∷ found origin_1 (findings.Error error_1)
+        ∷ found origin_1 (findings.Call header_1 (calls.Late 300)) ∷ found origin_1 (findings.Session sessions.Reboot)
+        ∷ found origin_1 (findings.NoEndpoint instance_1) ∷ found origin_1 (findings.BadRun instance_1)
+        ∷ found origin_1 (findings.Malformed (wire.Truncated 47)) ∷ [])
+        ≡ codes "audited 3 datagrams, 4 messages, 7 findings\nmalformed 1\nbad run 1\nno endpoint 1\nreboot 1\nlate 1\nerror 1\nunasked 1\n" }
     ensures none { summary_text Plain (record { datagrams = 3; messages = 4 }) []
         ≡ codes "audited 3 datagrams, 4 messages, 0 findings\n" }
     ensures objects { summary_text Json (record { datagrams = 3; messages = 4 })

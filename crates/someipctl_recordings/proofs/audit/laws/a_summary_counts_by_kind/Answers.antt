@@ -7,4 +7,4 @@ use Rattle.someipctl_recordings.proofs.audit.laws.a_summary_counts_by_kind.Goals
 
 pub returns : goal.returns
 unfolding digits encode_with escape_byte all_kinds
-returns c = record { some = refl; none = refl; objects = refl }
+returns c = record { some = refl; in_order = refl; none = refl; objects = refl }
