@@ -81,7 +81,9 @@ def offers():
 
 
 def subscriptions():
-    return of_entries(B, A, [entry(6, number) for number in range(LIMIT + 2)], 4000)
+    """Subscribes that are stopped at once: they wait all the same, and no subscription stands."""
+    found = [entry(6, number, CLIENT, ttl) for number in range(LIMIT + 2) for ttl in (3, 0)]
+    return of_entries(B, A, found, 4000)
 
 
 def receivers():
@@ -106,7 +108,8 @@ FULL = LIMIT // 4000 + 1
 CROWDS = {"calls": ("calls", calls, 1 + FULL), "answered calls": ("calls", answered_and_known, 1 + 2 * FULL + 1),
           "calls after answered ones": ("calls", answered_and_gone, 1 + 2 * FULL + FULL),
           "sessions": ("sessions", sessions, LIMIT + 1), "offers": ("offers", offers, FULL),
-          "subscriptions": ("subscriptions", subscriptions, FULL), "receivers": ("receivers", receivers, 2 * FULL - 1),
+          "subscriptions": ("subscriptions", subscriptions, 2 * LIMIT // 4000 + 1),
+          "receivers": ("receivers", receivers, 2 * FULL - 1),
           "events": ("events", events, 1 + FULL), "endpoints": ("endpoints", endpoints, 2 * LIMIT // 400 + 1)}
 
 

@@ -11,6 +11,7 @@ SERVER_PORTS, CLIENT_PORTS = (30509, 30510), (40001, 40002)
 FLAGGED, UNFLAGGED = 0xC0, 0x40
 MILLISECOND = 10**6
 STEPS = (0, 0, 0, 1, 1, 3, 10, 100, 250, 500, 500, 999, 1000, 1000, 1001, 2000, 3000, 5000)
+CODES = (1, 3, 0x0A, 0xFF)
 PAYLOADS = [b"", b"\1", b"\2", bytes(64), bytes(65), bytes(64) + b"\1", bytes(63) + b"\1\0"]
 
 
@@ -24,6 +25,7 @@ class Draws:
         self.rare = some.choice((0, 0.1, 0.3))
         self.steps = some.choice((STEPS, STEPS[:9], STEPS[3:]))
         self.payloads = some.sample(PAYLOADS, 2)
+        self.code = some.choice((0, 0, 3))
         self.weights = some.choice(((5, 3, 3, 2), (2, 8, 1, 0), (4, 0, 8, 1), (1, 1, 1, 8), (6, 1, 1, 0)))
 
     def chance(self, share):
@@ -119,7 +121,8 @@ class Draws:
         kind = self.one(wire.REQUEST, wire.REQUEST, wire.RESPONSE, wire.RESPONSE, wire.ERROR, wire.ONEWAY)
         client, server = self.client_end(), self.server_end()
         ends = (server, client) if kind in (wire.RESPONSE, wire.ERROR) else (client, server)
-        header = wire.Header(self.service(), self.mostly(0x0421, 0x0422), 1, self.mostly(1, 0, 2), 1, kind, 0)
+        code = self.mostly(0, *CODES)
+        header = wire.Header(self.service(), self.mostly(0x0421, 0x0422), 1, self.mostly(1, 0, 2), 1, kind, code)
         if self.chance(self.rare / 4):
             header = header._replace(**{self.one("client", "interface", "code"): 2})
         return *ends, wire.message(header, self.one(*self.payloads) if self.chance(0.4) else self.payloads[0])
@@ -133,12 +136,12 @@ class Draws:
         return server, receiver, wire.message(header, b"")
 
     def segment(self):
-        kind = self.one(wire.REQUEST, wire.RESPONSE, wire.RESPONSE, wire.NOTIFICATION, wire.NOTIFICATION)
+        kind = self.one(wire.REQUEST, wire.RESPONSE, wire.RESPONSE, wire.ERROR, wire.NOTIFICATION, wire.NOTIFICATION)
         client, server = self.client_end(), self.server_end()
         ends = (client, server) if kind == wire.REQUEST else (server, client)
         method = 0x8001 if kind == wire.NOTIFICATION else 0x0421
         session = self.mostly(1, 2, *range(20))
-        header = wire.Header(self.service(), method, 1, session, 1, kind | wire.TP, 0)
+        header = wire.Header(self.service(), method, 1, session, 1, kind | wire.TP, self.code)
         return *ends, wire.message(header, self.piece())
 
     def piece(self):

@@ -11,9 +11,9 @@ import wire
 from parts import TIMEOUT, refusal, whole_payload
 from seen import ACK, OFFER, SUBSCRIBE, Datagram, Seen, datagrams_of, looked_at, seen_in
 
-KINDS = ("malformed", "reboot", "sd session", "unanswered", "late", "unasked", "repeated", "key reused",
-         "event repeated", "event gap", "event unsubscribed", "segments", "segments missing", "offer expired",
-         "offer moved", "nack", "subscribe unanswered", "full")
+KINDS = ("malformed", "bad run", "no endpoint", "reboot", "sd session", "unanswered", "late", "error", "unasked",
+         "repeated", "key reused", "event repeated", "event gap", "event unsubscribed", "segments", "segments missing",
+         "offer expired", "offer moved", "nack", "subscribe unanswered", "full")
 CALLS, SEGMENTS, OFFERS, SUBSCRIBES = range(4)
 FIRST_GROUP = wire.address("224.0.0.0")
 
@@ -52,8 +52,12 @@ def event_text(header):
     return f"{header.service:04x}.{header.method:04x}"
 
 
+def instance_text(entry):
+    return f"{entry.service:04x}.{entry.instance:04x}"
+
+
 def offer_text(entry):
-    return f"{entry.service:04x}.{entry.instance:04x} major {entry.major:02x}"
+    return f"{instance_text(entry)} major {entry.major:02x}"
 
 
 def subscription_text(entry):
@@ -75,9 +79,11 @@ class Audit:
 
     def find_all(self):
         self.find_faults()
+        self.find_unusable()
         self.find_sessions()
         self.put_together()
         self.find_calls()
+        self.find_errors()
         self.find_offers()
         self.find_subscribes()
         self.find_unsubscribed()
@@ -128,6 +134,14 @@ class Audit:
     def find_faults(self):
         for seen in self.all_seen("fault"):
             self.tell(seen, 0, "malformed", " {} at {}".format(*seen.value))
+
+    def find_unusable(self):
+        """The entries whose options no node can use, each told before what else its entry shows."""
+        for seen in self.all_seen("entry"):
+            if seen.value.has_bad_run:
+                self.tell(seen, -1, "bad run", " " + instance_text(seen.value))
+            elif needs_endpoint(seen.value) and seen.value.endpoint is None:
+                self.tell(seen, -1, "no endpoint", " " + instance_text(seen.value))
 
     def find_sessions(self):
         by_sender = defaultdict(list)
@@ -237,6 +251,13 @@ class Audit:
         for seen in answers:
             if seen.moment >= self.begin + self.rules.answer:
                 self.tell(seen, 0, "unasked", " " + call_text(seen.value[0]))
+
+    def find_errors(self):
+        """The answers with another Return Code than 00, each told after what it shows of its call."""
+        for seen in self.all_seen("message"):
+            header = seen.value[0]
+            if header.kind in (wire.RESPONSE, wire.ERROR) and header.code:
+                self.tell(seen, 1, "error", f" {header.code:02x} {call_text(header)}")
 
     # ---- Offers
 
@@ -401,6 +422,10 @@ def is_nack(entry):
 
 def is_stop(entry):
     return entry.kind == OFFER and not entry.ttl
+
+
+def needs_endpoint(entry):
+    return entry.kind == OFFER and entry.ttl > 0 or entry.kind == SUBSCRIBE
 
 
 def asks(entry):

@@ -2,8 +2,8 @@
 datagram delivered at once. The nodes of one run are parted into worlds, which hear nothing of each other; each gives a
 recording.
 
-In a calm world each REQUEST is answered in time and nobody begins anew; in a rough one answers come late or never,
-nodes begin anew, offers pass and Subscribes are refused."""
+In a calm world each REQUEST is answered in time and without an error, and nobody begins anew; in a rough one answers
+come late or never or are errors, nodes begin anew, offers pass and Subscribes are refused."""
 import subprocess
 from pathlib import Path
 
@@ -12,6 +12,7 @@ import wire
 GROUP = wire.address("239.0.0.1")
 ANSWER_MS = 2000
 ROUNDS = 12
+ANSWERS = (("answer", "00"), ("answer", "00"), ("answer", "01"), ("error", "01"), ("error", "0a"))
 
 
 class Node:
@@ -69,14 +70,16 @@ class World:
 
     def deeds(self):
         """What applications do in a round: nothing, one step, an event several times, or a second step where the first
-        is none that peers have to hear of before."""
+        is none that peers have to hear of before. In a calm world no offer is stopped while a request is on its way."""
         if self.some.random() < 0.2:
             return []
         first = self.step()
         if first.startswith("publish ") and self.some.random() < 0.5:
             return [first] * 4
         is_heard = first.split(" ")[0] in ("call", "oneway", "publish", "publish_to")
-        return [first, self.step()] if is_heard and self.some.random() < 0.5 else [first]
+        second = self.step() if is_heard and self.some.random() < 0.5 else None
+        is_single = second is None or not self.rough and second.startswith("stop_offer ")
+        return [first] if is_single else [first, second]
 
     def step(self):
         """A step of an application."""
@@ -134,8 +137,13 @@ class World:
                 self.waiting.remove((asked, node, token))
             elif self.some.random() < self.haste or not self.rough and asked + ANSWER_MS <= now + step:
                 self.waiting.remove((asked, node, token))
-                given.append(f"{self.some.choice(('answer', 'answer', 'error'))} {node} {token} 01 {self.payload()}")
+                given.append(self.answer(node, token))
         return given
+
+    def answer(self, node, token):
+        """An answer to a request: in a rough world with an error, now and then."""
+        kind, code = self.some.choice(ANSWERS) if self.rough else ANSWERS[0]
+        return f"{kind} {node} {token} {code} {self.payload()}"
 
     def receivers(self, source, destination):
         """The nodes to which a datagram goes."""

@@ -12,7 +12,8 @@ it makes the list of all that was seen, and looks back over that for each findin
 Recordings: what they are; what is expected
   1000 `calm`: of nodes: drawn setups of two or three nodes, with a TTL of offers above twice the cyclic delay, and
     drawn calls, events, Subscribes, StopSubscribes and StopOffers, some with payloads that go in segments. All clocks
-    are ticked together, each datagram is delivered at once, and each request is answered in time; no finding
+    are ticked together, each datagram is delivered at once, and each request is answered in time, by a RESPONSE with
+    code 00; no finding
   1000 `rough`: of nodes too, which also begin anew, ask for eventgroups that there are not, offer for a second, and
     answer late or never. Then datagrams of the recording are lost, repeated, swapped or late; what the model tells
   1000 `drawn`: of drawn datagrams, which need make no sense: messages of Service Discovery, calls, events, segments,
@@ -143,7 +144,7 @@ def missed(sweep, sorts):
     """What did not come, where all sorts were tried: kinds of findings, and types of messages in calm worlds."""
     if len(sorts) < len(SORTS):
         return []
-    types = [wire.REQUEST, wire.ONEWAY, wire.NOTIFICATION, wire.RESPONSE, wire.ERROR, wire.NOTIFICATION | wire.TP]
+    types = [wire.REQUEST, wire.ONEWAY, wire.NOTIFICATION, wire.RESPONSE, wire.NOTIFICATION | wire.TP]
     kinds = [kind for kind in model.KINDS if kind not in sweep.kinds]
     return kinds + [f"type {kind:02x} in a calm world" for kind in types if kind not in sweep.calm_types]
 

@@ -29,7 +29,7 @@ class Header(NamedTuple):
 
 class Entry(NamedTuple):
     """An entry of Service Discovery: its kind is 0 Find, 1 Offer, 6 Subscribe or 7 Ack; its endpoint is that of the
-    first IPv4 UDP endpoint option, or None."""
+    first IPv4 UDP endpoint option, or None. One with a bad run has no options."""
     kind: int
     service: int
     instance: int
@@ -38,6 +38,7 @@ class Entry(NamedTuple):
     counter: int
     group: int
     endpoint: Optional[tuple]
+    has_bad_run: bool = False
 
 
 class Malformed(Exception):
@@ -121,9 +122,11 @@ def entry_bytes(entry, index, count):
 
 
 def discovery_payload(flags, entries):
-    """A payload with these entries, each with its endpoint as an option, which those of one endpoint share."""
+    """A payload with these entries, each with its endpoint as an option, which those of one endpoint share. A bad run
+    is of the option after the last."""
     ends = list(dict.fromkeys(entry.endpoint for entry in entries if entry.endpoint is not None))
-    run = lambda entry: (ends.index(entry.endpoint), 1) if entry.endpoint is not None else (0, 0)
+    run = lambda entry: ((len(ends), 1) if entry.has_bad_run else
+                         (ends.index(entry.endpoint), 1) if entry.endpoint is not None else (0, 0))
     texts = b"".join(entry_bytes(entry, *run(entry)) for entry in entries)
     options = b"".join(map(endpoint_option, ends))
     return struct.pack(">II", flags << 24, len(texts)) + texts + struct.pack(">I", len(options)) + options
@@ -174,14 +177,12 @@ def options_of(payload, place):
 
 def entry_of(text, options):
     kind, first, second, counts, service, instance, version, last = struct.unpack(">BBBBHHII", text)
-    chosen = []
-    for index, count in ((first, counts >> 4), (second, counts & 15)):
-        if count and index + count > len(options):
-            chosen = []
-            break
-        chosen += options[index:index + count] if count else []
+    runs = [(index, count) for index, count in ((first, counts >> 4), (second, counts & 15)) if count]
+    is_bad = any(index + count > len(options) for index, count in runs)
+    chosen = [] if is_bad else [option for index, count in runs for option in options[index:index + count]]
     endpoint = next((option for option in chosen if option is not None), None)
-    return Entry(kind, service, instance, version >> 24, version & FOREVER, last >> 16 & 15, last & 0xFFFF, endpoint)
+    return Entry(kind, service, instance, version >> 24, version & FOREVER, last >> 16 & 15, last & 0xFFFF, endpoint,
+                 is_bad)
 
 
 def discovery_of(payload):

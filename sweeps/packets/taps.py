@@ -161,7 +161,7 @@ class Case:
 
 def is_chosen(options, finding):
     """Whether the line of a finding names what is asked for."""
-    words = re.match(r"[a-z ]*?(?:[0-9]+ ms |[A-Za-z]+ )?([0-9a-f]{4})\.", finding.text)
+    words = re.match(r"[a-z ]*?(?:[0-9]+ ms |[0-9a-f]{2} |[A-Za-z]+ )?([0-9a-f]{4})\.", finding.text)
     client = re.search(r" client ([0-9a-f]{4})", finding.text)
     if "service" in options and not (words and int(words[1], 16) == options["service"]):
         return False
