@@ -82,9 +82,11 @@ def subscription(line):
 
 FOUND = {
     "malformed": lambda line: f"{line['name']} at {line['at']}",
+    **dict.fromkeys(("bad-run", "no-endpoint"), lambda line: ids(line, "instance")),
     "reboot": lambda line: "",
     "sd-session": lambda line: f"{line['session']} expected {line['expected']}",
     "late": lambda line: f"{line['ms']} ms {call(line)}",
+    "error": lambda line: f"{line['code']} {call(line)}",
     **dict.fromkeys(("unanswered", "unasked", "repeated", "key-reused", "segments-missing"), call),
     "event-repeated": lambda line: f"{ids(line, 'event')} session {line['session']}",
     "event-gap": lambda line: f"{ids(line, 'event')} session {line['session']} expected {line['expected']}",
