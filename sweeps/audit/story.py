@@ -13,9 +13,9 @@ OFFER, SUBSCRIBE, ACK = 1, 6, 7
 BEGIN = 1700000000 * 10**9
 
 
-def entry(kind, ttl, group=0, endpoint=None):
+def entry(kind, ttl, group=0, endpoint=None, has_bad_run=False):
     at = wire.endpoint_of(endpoint) if endpoint else None
-    return wire.Entry(kind, 0x1111, 1, 1, ttl, 0, group, at)
+    return wire.Entry(kind, 0x1111, 1, 1, ttl, 0, group, at, has_bad_run)
 
 
 def told(time, source, destination, payload):
@@ -29,17 +29,22 @@ def discovery(time, source, destination, session, *entries):
     return told(time, f"{source}:30490", f"{destination}:30490", payload)
 
 
-def header(method, client, session, kind):
-    return wire.Header(0x1111, method, client, session, 1, kind, 0)
+def header(method, client, session, kind, code=0):
+    return wire.Header(0x1111, method, client, session, 1, kind, code)
 
 
-def call(time, session, payload=b"\1"):
-    message = wire.message(header(0x0421, 0x0102, session, wire.REQUEST), payload)
+def call(time, session, payload=b"\1", method=0x0421):
+    message = wire.message(header(method, 0x0102, session, wire.REQUEST), payload)
     return told(time, f"{B}:40001", f"{A}:30509", message)
 
 
 def answer(time, session):
     message = wire.message(header(0x0421, 0x0102, session, wire.RESPONSE), b"\2")
+    return told(time, f"{A}:30509", f"{B}:40001", message)
+
+
+def unknown_method(time, session, method):
+    message = wire.message(header(method, 0x0102, session, wire.ERROR, 3), b"")
     return told(time, f"{A}:30509", f"{B}:40001", message)
 
 
@@ -86,6 +91,10 @@ STORY = [
     discovery(20010, B, A, 4, entry(SUBSCRIBE, 12, 1, f"{B}:40001")),
     discovery(20012, A, B, 1, entry(ACK, 12, 1)),
     event(30000, 1),
+    call(30500, 1, method=0x0423),
+    unknown_method(30520, 1, 0x0423),
+    discovery(31000, C, GROUP, 2, entry(OFFER, 3)),
+    discovery(31500, C, GROUP, 3, entry(OFFER, 3, has_bad_run=True)),
 ]
 
 if __name__ == "__main__":
