@@ -24,6 +24,7 @@ import subprocess
 import sys
 import tempfile
 from concurrent.futures import ThreadPoolExecutor
+from itertools import product
 
 HERE = os.path.dirname(os.path.abspath(__file__))
 sys.path[:0] = [HERE, f"{HERE}/../audit", f"{HERE}/../json"]
@@ -212,7 +213,8 @@ def cuts(whole, seed):
 
 
 def changes(whole, seed):
-    """Places, and cases of the file with the byte there changed: most of them are not in a long payload."""
+    """Places, and cases of the file with the byte there changed: most of them are not in a long payload, and some say
+    Return Codes and options to an audit."""
     some = random.Random(f"changes{seed}")
     pieces = reader.pieces_of(whole)[0]
     heads = [place for piece in pieces for place in range(piece.start, min(piece.start + 130, piece.end))]
@@ -221,6 +223,14 @@ def changes(whole, seed):
         change = some.choice((1, 2, 4, 8, 16, 32, 64, 128, 255))
         data = changed(whole, place, change)
         yield place, Case(f"byte {place} changed by {change}", ROWS[at % len(ROWS)], ("two", data))
+    for place, change, row in product(audited(whole), (16, 32), [row for row in ROWS if row[0].startswith("audit")]):
+        yield place, Case(f"byte {place} changed by {change}", row, ("two", changed(whole, place, change)))
+
+
+def audited(whole):
+    """The places of the Return Codes of answers, and of the lengths of runs of first entries of Service Discovery."""
+    answers = [found.start() + 15 for found in re.finditer(rb"\x12\x34\x04\x21.{10}\x80", whole, re.DOTALL)]
+    return answers + [found.start() + 27 for found in re.finditer(rb"\xff\xff\x81\0", whole)]
 
 
 def changed(data, place, change):
