@@ -87,12 +87,15 @@ abbrev pub offers : ServiceKind → Bool
 offers Find = false
 offers Offer = true
 
+abbrev pub is_offer : ServiceEntry → Bool
+is_offer entry = offers entry.kind && not (entry.ttl == 0)
+
 abbrev pub subscribes : EventgroupKind → Bool
 subscribes kinds.Subscribe = true
 subscribes kinds.Ack = false
 
 abbrev pub names_endpoint : EntryHead → Bool
-names_endpoint (Service entry) = offers entry.kind && not (entry.ttl == 0)
+names_endpoint (Service entry) = is_offer entry
 names_endpoint (Eventgroup entry) = subscribes entry.kind && not (entry.ttl == 0)
 
 -- the endpoint that an entry names, by the first IPv4 endpoint over UDP among its options, if it has one
@@ -108,7 +111,7 @@ instance_of (Eventgroup entry) = record { service = entry.service; instance = en
 
 -- an entry is an Offer, a Subscribe or a StopSubscribe, and no Find, StopOffer or answer
 abbrev pub needs_endpoint : EntryHead → Bool
-needs_endpoint (Service entry) = offers entry.kind && not (entry.ttl == 0)
+needs_endpoint (Service entry) = is_offer entry
 needs_endpoint (Eventgroup entry) = subscribes entry.kind
 
 -- it needs an IPv4 endpoint over UDP among its options, and has none

@@ -1,7 +1,7 @@
 //! Entries of Service Discovery as the books take them.
 ghost use Rattle.std.specs.Prelude.{◌≡◌};
-ghost use Rattle.someip_audit.specs.SdEntries.{instance_of, lacks_endpoint, named_endpoint, names_endpoint, needs_endpoint};
-ghost use Rattle.someip_audit.specs.SdEntries.{offer_entry, receiver_entry, sd_message, subscribe_entry, withdrawn_offer};
+ghost use Rattle.someip_audit.specs.SdEntries.{instance_of, is_offer, lacks_endpoint, named_endpoint, names_endpoint};
+ghost use Rattle.someip_audit.specs.SdEntries.{needs_endpoint, offer_entry, receiver_entry, sd_message, subscribe_entry, withdrawn_offer};
 
 use crate::finding::ServiceInstance;
 use audit_sd::offers::{OfferEntry, OfferKey};
@@ -134,10 +134,8 @@ fn needs_endpoint(head: &EntryHead) -> bool
     ensures { result ≡ needs_endpoint head.now }
 {
     match head {
-        EntryHead::Service(entry) => {
-            matches!(entry.kind, ServiceKind::Offer) && entry.ttl.seconds() != 0
-        }
-        EntryHead::Eventgroup(entry) => matches!(entry.kind, EventgroupKind::Subscribe),
+        EntryHead::Service(service) => is_offer(service),
+        EntryHead::Eventgroup(group) => matches!(group.kind, EventgroupKind::Subscribe),
     }
 }
 
@@ -146,11 +144,16 @@ fn names_endpoint(head: &EntryHead) -> bool
     ensures { result ≡ names_endpoint head.now }
 {
     match head {
-        EntryHead::Service(entry) => {
-            matches!(entry.kind, ServiceKind::Offer) && entry.ttl.seconds() != 0
-        }
+        EntryHead::Service(entry) => is_offer(entry),
         EntryHead::Eventgroup(entry) => {
             matches!(entry.kind, EventgroupKind::Subscribe) && entry.ttl.seconds() != 0
         }
     }
+}
+
+/// Whether an entry about an instance is an Offer, and no Find or StopOffer.
+fn is_offer(entry: &ServiceEntry) -> bool
+    ensures { result ≡ is_offer entry.now }
+{
+    matches!(entry.kind, ServiceKind::Offer) && entry.ttl.seconds() != 0
 }
