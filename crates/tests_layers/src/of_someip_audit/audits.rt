@@ -3,11 +3,11 @@ use crate::of_audit_sd::places::{at, endpoint, numbered};
 use audit_traffic::calls::CallFinding;
 use audit_traffic::segments::SegmentRules;
 use sd_wire::SdError;
-use someip_audit::{Audit, AuditRules, FellDue, Finding, WatchRules};
+use someip_audit::{Audit, AuditRules, FellDue, Finding, ServiceInstance, WatchRules};
 use someip_reassembly::SegmentList;
 use someip_tables::Moment;
 use someip_tables::hashed::Origin;
-use someip_wire::WireError;
+use someip_wire::{Header, ReturnCode, WireError};
 use std::alloc::{AllocError, Global};
 
 /// What is told, with its numbers where it has some.
@@ -37,12 +37,18 @@ enum Told {
     /// At byte 20.
     EntriesLength,
     EndpointsFull,
+    /// Code 03.
+    UnknownMethod,
+    /// Of instance 1 of service 1000.
+    BadRun,
+    NoEndpoint,
     Other,
 }
 
 use Told::{
-    EndpointsFull, EntriesLength, Expired, Gap, Late, Missing, Nack, NoTpHeader, OfferFull, Other,
-    Reboot, Repeated, SubscribeUnanswered, Truncated, Unanswered, Unsubscribed,
+    BadRun, EndpointsFull, EntriesLength, Expired, Gap, Late, Missing, Nack, NoEndpoint,
+    NoTpHeader, OfferFull, Other, Reboot, Repeated, SubscribeUnanswered, Truncated, Unanswered,
+    UnknownMethod, Unsubscribed,
 };
 
 /// A datagram: at a moment, from a port of a node to a port of a node, with these bytes; what is told
@@ -104,6 +110,18 @@ const ODD_ENTRIES: &str =
     "ffff8100000000230000000101010200c00000000000000f00000000000000000000000000000000000000";
 /// A segment of an event with a payload of 3 bytes.
 const SHORT_SEGMENT: &str = "100080010000000b0000000101012200000001";
+
+/// The answer to the REQUEST with session 1 that its method is not known: an ERROR with code 03.
+const ERROR_1: &str = "10000001000000080001000101018103";
+/// An Offer without options, session 1.
+const BARE_OFFER: &str =
+    "ffff8100000000240000000101010200c0000000000000100100000010000001010000030000000000000000";
+/// A StopOffer without options, session 2.
+const BARE_STOP_OFFER: &str =
+    "ffff8100000000240000000201010200c0000000000000100100000010000001010000000000000000000000";
+/// An Offer whose first run has one option, where there are none, session 3.
+const BAD_RUN: &str =
+    "ffff8100000000240000000301010200c0000000000000100100001010000001010000030000000000000000";
 
 /// Service Discovery of two nodes, and events from the endpoint that is learnt.
 const STORY: &[Row] = &[
@@ -196,6 +214,41 @@ const MALFORMED: &[Row] = &[
     Row(400, (9, 30490), (0, 30490), "", &[], Some(0)),
 ];
 
+/// An answer with an error, which comes again.
+const ERRORS: &[Row] = &[
+    Row(100, (1, 40000), (9, 30509), REQUEST_1, &[], Some(1)),
+    Row(
+        200,
+        (9, 30509),
+        (1, 40000),
+        ERROR_1,
+        &[UnknownMethod],
+        Some(1),
+    ),
+    Row(
+        210,
+        (9, 30509),
+        (1, 40000),
+        ERROR_1,
+        &[Other, UnknownMethod],
+        Some(1),
+    ),
+];
+
+/// Entries without an endpoint, and one with a bad run.
+const OPTIONS: &[Row] = &[
+    Row(
+        100,
+        (9, 30490),
+        (0, 30490),
+        BARE_OFFER,
+        &[NoEndpoint],
+        Some(1),
+    ),
+    Row(200, (9, 30490), (0, 30490), BARE_STOP_OFFER, &[], Some(1)),
+    Row(300, (9, 30490), (0, 30490), BAD_RUN, &[BadRun], Some(1)),
+];
+
 /// Books for one key each.
 const CROWDED: &[Row] = &[
     Row(100, (9, 30490), (0, 30490), OFFER, &[], Some(1)),
@@ -239,7 +292,24 @@ fn told_of(finding: &Finding) -> Told {
         Finding::Malformed(WireError::Truncated(63)) => Truncated,
         Finding::MalformedSd(SdError::EntriesLength(20)) => EntriesLength,
         Finding::EndpointsFull => EndpointsFull,
+        Finding::Error(
+            Header {
+                code: ReturnCode(3),
+                ..
+            },
+        ) => UnknownMethod,
+        Finding::BadRun(about) => if_instance_1(about, BadRun),
+        Finding::NoEndpoint(about) => if_instance_1(about, NoEndpoint),
         _ => Other,
+    }
+}
+
+/// What is told of instance 1 of service 1000.
+fn if_instance_1(about: &ServiceInstance, told: Told) -> Told {
+    if about.service == 0x1000 && about.instance == 1 {
+        told
+    } else {
+        Other
     }
 }
 
@@ -352,6 +422,8 @@ const TABLES: &[(&str, Option<&[u16]>, usize, &[Row])] = &[
     ("STORY", None, 100, STORY),
     ("CALLS", Some(&[30509]), 100, CALLS),
     ("MALFORMED", None, 100, MALFORMED),
+    ("ERRORS", Some(&[30509]), 100, ERRORS),
+    ("OPTIONS", None, 100, OPTIONS),
     ("CROWDED", None, 1, CROWDED),
 ];
 
