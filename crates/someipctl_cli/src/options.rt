@@ -214,7 +214,9 @@ pub(crate) fn services_of<'p, R: AllocGlobal>(
 }
 
 /// The limits of messages that are put together, if they are.
-pub(crate) fn whole_of<'p>(options: &RecordingOptions<'p>) -> Result<Option<WholeLimits>, Failure<'p>> {
+pub(crate) fn whole_of<'p>(
+    options: &RecordingOptions<'p>,
+) -> Result<Option<WholeLimits>, Failure<'p>> {
     if !options.whole {
         if options.limit.is_some() || options.slots.is_some() || options.timeout.is_some() {
             return Err(Failure::LimitAlone);

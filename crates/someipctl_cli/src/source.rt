@@ -51,7 +51,6 @@ pub(crate) fn open_file<'p, R: Files>(rt: &R, path: &'p str) -> Result<R::File, 
     })
 }
 
-
 /// What the types file at a path says, if there is one.
 pub(crate) fn types_at<'p, R: Files + AllocGlobal>(
     rt: &R,
