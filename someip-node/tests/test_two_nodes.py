@@ -115,9 +115,11 @@ class TwoNodes(Bench):
             recorded = [datagram for datagram in recorder.datagrams if datagram[0].startswith(address)]
             self.assertEqual(recorded, sent_lines(folder, name))
         self.check_replay(*folders)
-        # The restart is seen by the first message to where one went before: a Find to the group, or the Subscribe.
+        # The second call is answered by an ERROR. The restart is seen by the first message to where one went before: a
+        # Find to the group, or the Subscribe.
         found, looked_at = findings(recording)
-        self.assertEqual([(source, finding) for source, _, finding in found], [("127.0.0.3:30490", "reboot")])
+        self.assertEqual([(source, finding) for source, _, finding in found],
+                         [("127.0.0.2:30509", "error 04 1111.0421 client 0102 session 0002"), ("127.0.0.3:30490", "reboot")])
         self.assertEqual(looked_at, len(recorder.datagrams))
 
 
