@@ -1,7 +1,7 @@
 """What `someipctl audit` has to print of a recording, told from docs/AUDIT.md and not from the sources. It keeps whole
 lists of what was seen, and looks back over them for each finding; nothing is forgotten, and nothing is ever full.
 
-    model.py [--ports PORTS] [--answer-ms N] [--settle-ms N] RECORDING
+    model.py [--ports PORTS] [--answer-ms N] [--settle-ms N] [--overtake-ms N] [--sessions HOW] RECORDING
 """
 import sys
 from collections import defaultdict
@@ -12,9 +12,10 @@ from parts import TIMEOUT, refusal, whole_payload
 from seen import ACK, OFFER, SUBSCRIBE, Datagram, Seen, datagrams_of, looked_at, seen_in
 
 KINDS = ("malformed", "bad run", "no endpoint", "reboot", "sd session", "unanswered", "late", "error", "unasked",
-         "repeated", "key reused", "event repeated", "event gap", "event unsubscribed", "segments", "segments missing",
-         "offer expired", "offer moved", "nack", "subscribe unanswered", "full")
-CALLS, SEGMENTS, OFFERS, SUBSCRIBES = range(4)
+         "repeated", "key reused", "event repeated", "event overtaken", "event gap", "event unsubscribed", "segments",
+         "segments missing", "offer expired", "offer moved", "nack", "subscribe unanswered", "full")
+CALLS, SEGMENTS, OFFERS, SUBSCRIBES, GAPS = range(5)
+MOST_BEHIND = 64
 FIRST_GROUP = wire.address("224.0.0.0")
 
 
@@ -26,6 +27,8 @@ class Rules(NamedTuple):
     chosen: Callable = lambda finding: True
     answer: int = 2000
     settle: int = 10000
+    overtake: int = 100
+    by_sender: bool = False
 
 
 class Finding(NamedTuple):
@@ -362,31 +365,52 @@ class Audit:
 
     # ---- Sessions of events
 
+    def counted(self, seen):
+        """Which events are counted together with this one: those of its sender, or of its sender and ID."""
+        header = seen.value[0]
+        return seen.datagram.source, *((0, 0) if self.rules.by_sender else (header.service, header.method))
+
     def find_gaps(self):
         streams = defaultdict(list)
         for seen in self.all_seen("message"):
-            header = seen.value[0]
-            if header.kind == wire.NOTIFICATION and header.session:
-                streams[seen.datagram.source, header.service, header.method].append(seen)
+            if seen.value[0].kind == wire.NOTIFICATION and seen.value[0].session:
+                streams[self.counted(seen)].append(seen)
         standings = self.standings()
-        for stream in streams.values():
-            flows = defaultdict(list)
+        for key, stream in streams.items():
+            flows, missing = defaultdict(list), []
             for seen in stream:
-                self.judge_event(flows[seen.datagram.destination], stream, standings, seen)
+                self.judge_event(flows[seen.datagram.destination], stream, standings, missing, seen)
+            for gap in missing:
+                if not gap.came:
+                    text = f" {event_text(gap.shown_by.value[0])} session {gap.session:04x}"
+                    self.tell_due(gap.shown_by, gap.deadline, GAPS, (*key, gap.session), "event gap", text)
 
-    def judge_event(self, flow, stream, standings, seen):
-        """Judges an event by those of its flow that were not repeated ones, and enters it where it is none."""
+    def judge_event(self, flow, stream, standings, missing, seen):
+        """Judges an event by those of its flow that were each the last one, and enters it where it is the last."""
         header, ends = seen.value[0], (seen.sender, seen.receiver)
+        awaited = waiting(missing, header.session, seen.moment)
+        if awaited:
+            awaited.came = True
         last = flow[-1] if flow and not self.rebooted(ends, flow[-1].place, seen.place) else None
         text = f" {event_text(header)} session {header.session:04x}"
         if last and last.value[0].session == header.session:
             return self.tell(seen, 2, "event repeated", text)
+        if last and 0 < (last.value[0].session - header.session) % 0xFFFF <= MOST_BEHIND:
+            return self.tell(seen, 2, "event overtaken", text) if awaited else None
         flow.append(seen)
-        if not last:
-            return
-        expected = last.value[0].session % 0xFFFF + 1
-        if header.session != expected and not self.is_excused(last, stream, standings, seen):
-            self.tell(seen, 2, "event gap", f"{text} expected {expected:04x}")
+        if last and not self.is_excused(last, stream, standings, seen):
+            self.note_gap(last.value[0].session, missing, seen)
+
+    def note_gap(self, last, missing, seen):
+        """Notes the sessions between the last one and this, or tells that they are lost."""
+        header = seen.value[0]
+        skipped = [(last + ahead) % 0xFFFF or 0xFFFF for ahead in range(1, (header.session - last) % 0xFFFF)]
+        if len(skipped) > MOST_BEHIND:
+            text = f" {event_text(header)} session {skipped[0]:04x} to {skipped[-1]:04x}"
+            return self.tell(seen, 2, "event gap", text)
+        for session in skipped:
+            if not waiting(missing, session, seen.moment):
+                missing.append(Missing(session, seen, seen.moment + self.rules.overtake))
 
     def is_excused(self, last, stream, standings, seen):
         """Whether the sessions between two events of a flow need not be lost."""
@@ -399,7 +423,7 @@ class Audit:
         """Whether a subscription of the receiver changed, or the offer was withdrawn, between two events of a flow."""
         for other in self.all_seen("entry"):
             changed = other.value.kind in (SUBSCRIBE, ACK) and concerns(*sides(other), seen)
-            is_own = (other.sender, other.value.service) == (seen.sender, seen.value[0].service)
+            is_own = other.sender == seen.sender and (self.rules.by_sender or other.value.service == seen.value[0].service)
             if last.place < other.place < seen.place and (changed or is_own and is_stop(other.value)):
                 return True
         passed = [standing.passed for standing in standings if concerns(*standing.key[:2], seen)]
@@ -440,6 +464,19 @@ def sides(seen):
 def concerns(client, server, seen):
     """Whether a subscription between these two may be one by which an event goes."""
     return server == seen.sender and (client == seen.receiver or seen.receiver >= FIRST_GROUP)
+
+
+class Missing:
+    """A session that an event skipped, until when it may come, and whether it did."""
+
+    def __init__(self, session, shown_by, deadline):
+        self.session, self.shown_by, self.deadline, self.came = session, shown_by, deadline, False
+
+
+def waiting(missing, session, moment):
+    """The missing session that this is, if it waits at this moment."""
+    found = (gap for gap in missing if gap.session == session and not gap.came and moment < gap.deadline)
+    return next(found, None)
 
 
 class Standing(NamedTuple):
@@ -502,6 +539,10 @@ def rules_of(words):
             rules = rules._replace(answer=int(value))
         elif option == "--settle-ms":
             rules = rules._replace(settle=int(value))
+        elif option == "--overtake-ms":
+            rules = rules._replace(overtake=int(value))
+        elif option == "--sessions":
+            rules = rules._replace(by_sender=value == "sender")
         else:
             sys.exit(f"model: no option {option}")
     return rules, words

@@ -1,3 +1,4 @@
 pub mod about_calls
 pub mod about_events
+pub mod about_gaps
 pub mod about_segments

@@ -1,3 +1,5 @@
 pub mod calls
 pub mod events
+pub mod gaps
 pub mod segments
+pub mod sequence

@@ -28,3 +28,4 @@ pub use finding::Finding;
 pub use flow::EventFlow;
 pub use last_event::LastEvent;
 pub use notification::Notification;
+pub(crate) use steps::ahead;

@@ -1,10 +1,14 @@
 //! What calls, events and segments show in a recording, a book for each kind:
 //!
 //! - [`calls`]: reused keys, late, repeated and unasked answers, and calls without one;
-//! - [`events`]: which event came twice, and which were lost;
-//! - [`segments`]: what each segment makes of its message, and which messages stay in part.
+//! - [`events`]: which event came twice, which is behind, and which sessions it skips;
+//! - [`gaps`]: the sessions of events that are missing, for as long as they may still come;
+//! - [`segments`]: what each segment makes of its message, and which messages stay in part;
+//! - [`sequence`]: which event was overtaken, and which were lost, over `events` and `gaps`.
 #![tactic(auto)]
 
 pub mod calls;
 pub mod events;
+pub mod gaps;
 pub mod segments;
+pub mod sequence;

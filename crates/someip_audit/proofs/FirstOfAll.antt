@@ -18,6 +18,12 @@ use Rattle.audit_traffic.specs.declared.segments.told.Missing.{Missing}
 use Rattle.audit_traffic.specs.segments.MessageKeys.{message_cmp, message_key, messages_total, exact_messages}
 use Rattle.audit_traffic.specs.segments.SegmentBooks as segments
 use Rattle.audit_traffic.specs.segments.SegmentWaits as waits
+use Rattle.audit_traffic.specs.declared.gaps.finding.LostEvent.{LostEvent}
+use Rattle.audit_traffic.specs.gaps.GapRules as gap
+use Rattle.audit_traffic.specs.gaps.GapTables as gaps
+use Rattle.audit_traffic.specs.gaps.MissingOrder.{exact_missing, missing_total}
+use Rattle.audit_traffic.specs.sequence.Sequences as events
+use Rattle.audit_traffic.specs.sequence.Sequences.{Sequence}
 use Rattle.audit_sd.specs.declared.offers.finding.Expired.{Expired}
 use Rattle.audit_sd.specs.offers.OfferOrder.{offers_total, exact_offers}
 use Rattle.audit_sd.specs.offers.OfferRules.{passes_at}
@@ -36,14 +42,15 @@ has_passed_is : (now : ℕ) (until : Deadline) → has_passed now until ≡ is_d
 has_passed_is now (At moment) = refl
 has_passed_is now Never = refl
 
--- the first moments of the three books whose moments are all told
-module _ (held : Held) (now : ℕ) (seg off sub : Option ℕ)
+-- the first moments of the four books whose moments are all told
+module _ (held : Held) (now : ℕ) (seg off sub lost : Option ℕ)
     (from_seg : HoldsFrom seg (λ at. due_by waits.waits_of at held.segments.waiting ≢ finite.empty))
     (from_off : HoldsFrom off (λ at. due_by passes_at at held.offers.standing ≢ finite.empty))
     (from_sub : HoldsFrom sub (λ at. due_by waits_until at held.subscriptions.waiting ≢ finite.empty))
-    (rest next : Option ℕ) (at : ℕ) (rest_eq : rest ≡ earlier off sub) (next_eq : next ≡ earlier seg rest) (at_eq : at ≡ soonest now next) where
-  all_eq : next ≡ earlier seg (earlier off sub)
-  all_eq = next_eq ∙ ap (earlier seg) rest_eq
+    (from_lost : HoldsFrom lost (λ at. due_by gap.waits_until at held.events.gaps.waiting ≢ finite.empty))
+    (others rest next : Option ℕ) (at : ℕ) (others_eq : others ≡ earlier sub lost) (rest_eq : rest ≡ earlier off others) (next_eq : next ≡ earlier seg rest) (at_eq : at ≡ soonest now next) where
+  all_eq : next ≡ earlier seg (earlier off (earlier sub lost))
+  all_eq = next_eq ∙ ap (earlier seg) (rest_eq ∙ ap (earlier off) others_eq)
 
   at_le : (d : ℕ) → is_due_by d next ≡ true → d ≤ now → at ≤ d
   at_le d come le = let h = soonest_le now d next come le in omega (arith, at_eq, h)
@@ -64,13 +71,19 @@ module _ (held : Held) (now : ℕ) (seg off sub : Option ℕ)
   asked_come u has = not_before_first subscriptions_total exact_subscriptions waits_until held.subscriptions.waiting sub from_sub u.key (record { origin = u.origin; until = u.at }) u.at has refl
 
   by_missing : (m : Missing) → segments.IsWaiting held.segments.waiting m → is_due_by m.until next ≡ true
-  by_missing m waiting = ap (is_due_by m.until) all_eq ∙ come_left m.until seg (earlier off sub) (missing_come m waiting)
+  by_missing m waiting = ap (is_due_by m.until) all_eq ∙ come_left m.until seg (earlier off (earlier sub lost)) (missing_come m waiting)
 
   by_expired : (e : Expired) → finite.get held.offers.standing e.key ≡ Some e.offer → passes_at e.offer ≡ Some e.at → is_due_by e.at next ≡ true
-  by_expired e has passes = ap (is_due_by e.at) all_eq ∙ come_right e.at seg (earlier off sub) (come_left e.at off sub (expired_come e has passes))
+  by_expired e has passes = ap (is_due_by e.at) all_eq ∙ come_right e.at seg (earlier off (earlier sub lost)) (come_left e.at off (earlier sub lost) (expired_come e has passes))
 
   by_asked : (u : no_answer.Unanswered) → finite.get held.subscriptions.waiting u.key ≡ Some (record { origin = u.origin; until = u.at }) → is_due_by u.at next ≡ true
-  by_asked u has = ap (is_due_by u.at) all_eq ∙ come_right u.at seg (earlier off sub) (come_right u.at off sub (asked_come u has))
+  by_asked u has = ap (is_due_by u.at) all_eq ∙ come_right u.at seg (earlier off (earlier sub lost)) (come_right u.at off (earlier sub lost) (come_left u.at sub lost (asked_come u has)))
+
+  lost_come : (l : LostEvent) → finite.get held.events.gaps.waiting l.key ≡ Some (record { shown_by = l.shown_by; numbers = l.numbers; until = l.at }) → is_due_by l.at lost ≡ true
+  lost_come l has = not_before_first missing_total exact_missing gap.waits_until held.events.gaps.waiting lost from_lost l.key (record { shown_by = l.shown_by; numbers = l.numbers; until = l.at }) l.at has refl
+
+  by_lost : (l : LostEvent) → finite.get held.events.gaps.waiting l.key ≡ Some (record { shown_by = l.shown_by; numbers = l.numbers; until = l.at }) → is_due_by l.at next ≡ true
+  by_lost l has = ap (is_due_by l.at) all_eq ∙ come_right l.at seg (earlier off (earlier sub lost)) (come_right l.at off (earlier sub lost) (come_right l.at sub lost (lost_come l has)))
 
   -- ---- a call
 
@@ -86,6 +99,8 @@ module _ (held : Held) (now : ℕ) (seg off sub : Option ℕ)
       let le : at ≤ other.at = at_le other.at (by_expired other is.0 is.1) come in le_by_book told.until other.at (omega (arith, before, le))
   call_first told before first (due.SubscribeUnanswered other) (is, come) =
       let le : at ≤ other.at = at_le other.at (by_asked other is) come in le_by_book told.until other.at (omega (arith, before, le))
+  call_first told before first (due.EventLost other) (is, come) =
+      let le : at ≤ other.at = at_le other.at (by_lost other is) come in le_by_book told.until other.at (omega (arith, before, le))
 
   module _ (no_call : (other : Unanswered) → IsOpenCall held.calls.calls other → at < other.until) where
     -- ---- nothing
@@ -95,6 +110,7 @@ module _ (held : Held) (now : ℕ) (seg off sub : Option ℕ)
     none_first not_there (due.Missing other) (is, come) = soonest_some now other.until next (moved not_there) (by_missing other is) come
     none_first not_there (due.Expired other) (is, come) = soonest_some now other.at next (moved not_there) (by_expired other is.0 is.1) come
     none_first not_there (due.SubscribeUnanswered other) (is, come) = soonest_some now other.at next (moved not_there) (by_asked other is) come
+    none_first not_there (due.EventLost other) (is, come) = soonest_some now other.at next (moved not_there) (by_lost other is) come
 
     pub none_after : is_awaited at next ≡ false → (book : calls.Book) → book ≡ record held.calls { calls = calls_after_due held.calls.rules.limit at None held.calls.calls }
         → record held { calls = book } ≡ after_due now None held
@@ -142,6 +158,8 @@ module _ (held : Held) (now : ℕ) (seg off sub : Option ℕ)
             let le = least other.at at next next_is (by_expired other is.0 is.1) in let e = missing_at told waiting first in le_by_book told.until other.at (omega (arith, le, e))
         missing_first told waiting first (due.SubscribeUnanswered other) (is, come) =
             let le = least other.at at next next_is (by_asked other is) in let e = missing_at told waiting first in le_by_book told.until other.at (omega (arith, le, e))
+        missing_first told waiting first (due.EventLost other) (is, come) =
+            let le = least other.at at next next_is (by_lost other is) in let e = missing_at told waiting first in le_by_book told.until other.at (omega (arith, le, e))
 
         pub missing_after : (told : Missing) → segments.IsWaiting held.segments.waiting told
             → ((other : Missing) → segments.IsWaiting held.segments.waiting other → is_le (segments.missing_cmp told other) ≡ true)
@@ -151,8 +169,8 @@ module _ (held : Held) (now : ℕ) (seg off sub : Option ℕ)
         missing_after told waiting first book new is_book is_new = rw (is_book, is_new, sym (missing_at told waiting first)) refl
 
       module _ (not_seg : is_awaited at seg ≡ false) where
-        rest_is : earlier off sub ≡ Some at
-        rest_is = second at seg (earlier off sub) (sym all_eq ∙ next_is) not_seg
+        rest_is : earlier off (earlier sub lost) ≡ Some at
+        rest_is = second at seg (earlier off (earlier sub lost)) (sym all_eq ∙ next_is) not_seg
 
         -- an offer that expired
         module _ (first_is : is_awaited at off ≡ true) where
@@ -176,11 +194,13 @@ module _ (held : Held) (now : ℕ) (seg off sub : Option ℕ)
           expired_first told falls (due.Unanswered other) (is, come) =
               let lt = no_call other is in let e = expired_at told falls in le_by_time told.at other.until _ (omega (arith, lt, e))
           expired_first told falls (due.Missing other) (is, come) =
-              let lt : at < other.until = after_it other.until at seg (earlier off sub) (sym all_eq ∙ next_is) not_seg (missing_come other is) in
+              let lt : at < other.until = after_it other.until at seg (earlier off (earlier sub lost)) (sym all_eq ∙ next_is) not_seg (missing_come other is) in
               let e = expired_at told falls in le_by_time told.at other.until _ (omega (arith, lt, e))
           expired_first told falls (due.Expired other) (is, come) = falls.0.1 (record { at = other.at; key = other.key }) (ap (option_and_then passes_at) is.0 ∙ is.1)
           expired_first told falls (due.SubscribeUnanswered other) (is, come) =
               let le = least other.at at next next_is (by_asked other is) in let e = expired_at told falls in le_by_book told.at other.at (omega (arith, le, e))
+          expired_first told falls (due.EventLost other) (is, come) =
+              let le = least other.at at next next_is (by_lost other is) in let e = expired_at told falls in le_by_book told.at other.at (omega (arith, le, e))
 
           pub expired_after : (told : Expired) → offers.FallsDue at held.offers.standing (Some told)
               → (book : calls.Book) (new : offers.OfferTable) → book ≡ record held.calls { calls = calls_after_due held.calls.rules.limit at None held.calls.calls }
@@ -188,35 +208,71 @@ module _ (held : Held) (now : ℕ) (seg off sub : Option ℕ)
               → record held { calls = book; offers = new } ≡ after_due now (Some (due.Expired told)) held
           expired_after told falls book new is_book is_new = rw (is_book, is_new, sym (expired_at told falls)) refl
 
-        -- a Subscribe without an answer
         module _ (not_off : is_awaited at off ≡ false) where
-          sub_is : sub ≡ Some at
-          sub_is = second at off sub rest_is not_off
+          others_is : earlier sub lost ≡ Some at
+          others_is = second at off (earlier sub lost) rest_is not_off
 
-          pub no_asked : subscriptions.FallsDue at held.subscriptions.waiting None → ⊥
-          no_asked none =
-              something_waits subscriptions_total exact_subscriptions waits_until held.subscriptions.waiting sub from_sub at sub_is (λ k v has. none k v has)
+          -- a Subscribe without an answer
+          module _ (first_is : is_awaited at sub ≡ true) where
+            pub no_asked : subscriptions.FallsDue at held.subscriptions.waiting None → ⊥
+            no_asked none =
+                something_waits subscriptions_total exact_subscriptions waits_until held.subscriptions.waiting sub from_sub at (awaited_is at sub first_is) (λ k v has. none k v has)
 
-          asked_at : (told : no_answer.Unanswered) → subscriptions.FallsDue at held.subscriptions.waiting (Some told) → told.at ≡ at
-          asked_at told falls = let le = falls.2 in let ge : at ≤ told.at = least told.at at next next_is (by_asked told falls.1) in omega (arith, le, ge)
+            asked_at : (told : no_answer.Unanswered) → subscriptions.FallsDue at held.subscriptions.waiting (Some told) → told.at ≡ at
+            asked_at told falls = let le = falls.2 in let ge : at ≤ told.at = least told.at at next next_is (by_asked told falls.1) in omega (arith, le, ge)
 
-          pub asked_is_due : (told : no_answer.Unanswered) → subscriptions.FallsDue at held.subscriptions.waiting (Some told) → IsDue now held (due.SubscribeUnanswered told)
-          asked_is_due told falls = let e = asked_at told falls in let le : at ≤ now = at_le_now in (falls.1, omega (arith, e, le))
+            pub asked_is_due : (told : no_answer.Unanswered) → subscriptions.FallsDue at held.subscriptions.waiting (Some told) → IsDue now held (due.SubscribeUnanswered told)
+            asked_is_due told falls = let e = asked_at told falls in let le : at ≤ now = at_le_now in (falls.1, omega (arith, e, le))
 
-          pub asked_first : (told : no_answer.Unanswered) → subscriptions.FallsDue at held.subscriptions.waiting (Some told) → (other : FellDue) → IsDue now held other
-              → is_le (fell_cmp (due.SubscribeUnanswered told) other) ≡ true
-          asked_first told falls (due.Unanswered other) (is, come) =
-              let lt = no_call other is in let e = asked_at told falls in le_by_time told.at other.until _ (omega (arith, lt, e))
-          asked_first told falls (due.Missing other) (is, come) =
-              let lt : at < other.until = after_it other.until at seg (earlier off sub) (sym all_eq ∙ next_is) not_seg (missing_come other is) in
-              let e = asked_at told falls in le_by_time told.at other.until _ (omega (arith, lt, e))
-          asked_first told falls (due.Expired other) (is, come) =
-              let lt : at < other.at = after_it other.at at off sub rest_is not_off (expired_come other is.0 is.1) in
-              let e = asked_at told falls in le_by_time told.at other.at _ (omega (arith, lt, e))
-          asked_first told falls (due.SubscribeUnanswered other) (is, come) = falls.0.1 (record { at = other.at; key = other.key }) (ap (option_and_then waits_until) is)
+            pub asked_first : (told : no_answer.Unanswered) → subscriptions.FallsDue at held.subscriptions.waiting (Some told) → (other : FellDue) → IsDue now held other
+                → is_le (fell_cmp (due.SubscribeUnanswered told) other) ≡ true
+            asked_first told falls (due.Unanswered other) (is, come) =
+                let lt = no_call other is in let e = asked_at told falls in le_by_time told.at other.until _ (omega (arith, lt, e))
+            asked_first told falls (due.Missing other) (is, come) =
+                let lt : at < other.until = after_it other.until at seg (earlier off (earlier sub lost)) (sym all_eq ∙ next_is) not_seg (missing_come other is) in
+                let e = asked_at told falls in le_by_time told.at other.until _ (omega (arith, lt, e))
+            asked_first told falls (due.Expired other) (is, come) =
+                let lt : at < other.at = after_it other.at at off (earlier sub lost) rest_is not_off (expired_come other is.0 is.1) in
+                let e = asked_at told falls in le_by_time told.at other.at _ (omega (arith, lt, e))
+            asked_first told falls (due.SubscribeUnanswered other) (is, come) = falls.0.1 (record { at = other.at; key = other.key }) (ap (option_and_then waits_until) is)
+            asked_first told falls (due.EventLost other) (is, come) =
+                let le = least other.at at next next_is (by_lost other is) in let e = asked_at told falls in le_by_book told.at other.at (omega (arith, le, e))
 
-          pub asked_after : (told : no_answer.Unanswered) → subscriptions.FallsDue at held.subscriptions.waiting (Some told)
-              → (book : calls.Book) (new : subscriptions.SubscribeTable) → book ≡ record held.calls { calls = calls_after_due held.calls.rules.limit at None held.calls.calls }
-              → new ≡ subscriptions.after_due (Some told) held.subscriptions
-              → record held { calls = book; subscriptions = new } ≡ after_due now (Some (due.SubscribeUnanswered told)) held
-          asked_after told falls book new is_book is_new = rw (is_book, is_new, sym (asked_at told falls)) refl
+            pub asked_after : (told : no_answer.Unanswered) → subscriptions.FallsDue at held.subscriptions.waiting (Some told)
+                → (book : calls.Book) (new : subscriptions.SubscribeTable) → book ≡ record held.calls { calls = calls_after_due held.calls.rules.limit at None held.calls.calls }
+                → new ≡ subscriptions.after_due (Some told) held.subscriptions
+                → record held { calls = book; subscriptions = new } ≡ after_due now (Some (due.SubscribeUnanswered told)) held
+            asked_after told falls book new is_book is_new = rw (is_book, is_new, sym (asked_at told falls)) refl
+
+          -- a session of an event that did not come
+          module _ (not_sub : is_awaited at sub ≡ false) where
+            lost_is : lost ≡ Some at
+            lost_is = second at sub lost others_is not_sub
+
+            pub no_lost : gaps.FallsDue at held.events.gaps.waiting None → ⊥
+            no_lost none = something_waits missing_total exact_missing gap.waits_until held.events.gaps.waiting lost from_lost at lost_is (λ k v has. none k v has)
+
+            lost_at : (told : LostEvent) → gaps.FallsDue at held.events.gaps.waiting (Some told) → told.at ≡ at
+            lost_at told falls = let le = falls.2 in let ge : at ≤ told.at = least told.at at next next_is (by_lost told falls.1) in omega (arith, le, ge)
+
+            pub lost_is_due : (told : LostEvent) → gaps.FallsDue at held.events.gaps.waiting (Some told) → IsDue now held (due.EventLost told)
+            lost_is_due told falls = let e = lost_at told falls in let le : at ≤ now = at_le_now in (falls.1, omega (arith, e, le))
+
+            pub lost_first : (told : LostEvent) → gaps.FallsDue at held.events.gaps.waiting (Some told) → (other : FellDue) → IsDue now held other → is_le (fell_cmp (due.EventLost told) other) ≡ true
+            lost_first told falls (due.Unanswered other) (is, come) =
+                let lt = no_call other is in let e = lost_at told falls in le_by_time told.at other.until _ (omega (arith, lt, e))
+            lost_first told falls (due.Missing other) (is, come) =
+                let lt : at < other.until = after_it other.until at seg (earlier off (earlier sub lost)) (sym all_eq ∙ next_is) not_seg (missing_come other is) in
+                let e = lost_at told falls in le_by_time told.at other.until _ (omega (arith, lt, e))
+            lost_first told falls (due.Expired other) (is, come) =
+                let lt : at < other.at = after_it other.at at off (earlier sub lost) rest_is not_off (expired_come other is.0 is.1) in
+                let e = lost_at told falls in le_by_time told.at other.at _ (omega (arith, lt, e))
+            lost_first told falls (due.SubscribeUnanswered other) (is, come) =
+                let lt : at < other.at = after_it other.at at sub lost others_is not_sub (asked_come other is) in
+                let e = lost_at told falls in le_by_time told.at other.at _ (omega (arith, lt, e))
+            lost_first told falls (due.EventLost other) (is, come) = falls.0.1 (record { at = other.at; key = other.key }) (ap (option_and_then gap.waits_until) is)
+
+            pub lost_after : (told : LostEvent) → gaps.FallsDue at held.events.gaps.waiting (Some told)
+                → (book : calls.Book) (new : Sequence) → book ≡ record held.calls { calls = calls_after_due held.calls.rules.limit at None held.calls.calls } → new ≡ events.after_due (Some told) held.events
+                → record held { calls = book; events = new } ≡ after_due now (Some (due.EventLost told)) held
+            lost_after told falls book new is_book is_new = rw (is_book, is_new, sym (lost_at told falls)) refl

@@ -26,7 +26,7 @@ use Rattle.audit_sd.specs.receivers.ReceiverTables as receivers
 use Rattle.audit_traffic.specs.segments.SegmentBooks as segments
 use Rattle.someip_audit.specs.declared.finding.Finding.TheVariants as findings
 use Rattle.sd_wire.specs.declared.error.SdError.{SdError}
-use Rattle.audit_traffic.specs.events.EventTables as events
+use Rattle.audit_traffic.specs.sequence.Sequences as events
 use Rattle.someip_wire.specs.Reading.{items_of}
 use Rattle.someip_audit.specs.Audits.{Seen, datagram_shown, seen_work, without_passed}
 use Rattle.someip_audit.specs.WatchedEndpoints.{is_at_discovery, is_looked_at}
@@ -198,15 +198,15 @@ event_front now origin header work = cases (is_event origin header)
     cases true = front_told _ work.told
     cases false = front_same work.told
 
-flow_front : (origin : Origin) (header : Header) (work : Work) → IsFront work.told (flow_shown origin header work).told
-flow_front origin header work = cases (is_notification header.kind)
+flow_front : (now : ℕ) (origin : Origin) (header : Header) (work : Work) → IsFront work.told (flow_shown now origin header work).told
+flow_front now origin header work = cases (is_notification header.kind)
   where
     cases : (b : Bool)
         → IsFront work.told
         (if b
         then record {
-          held = record work.held { events = events.after_event (event_seen origin header) work.held.events };
-          told = with_told (option_map (findings.EventSession (event_flow origin header) header.session) (events.told_by (event_seen origin header) work.held.events)) work.told;
+          held = record work.held { events = events.after_event now origin.numbers (event_seen origin header) work.held.events };
+          told = with_told (option_map (findings.EventSession (event_flow origin header) header.session) (events.told_by origin.numbers (event_seen origin header) work.held.events)) work.told;
         }
         else work).told
     cases true = front_told _ work.told
@@ -219,10 +219,10 @@ coded_front now origin header payload work =
     front_further work.told called.told _ (front_told _ work.told) (front_told (told_of_code header) called.told)
 
 -- who is subscribed to its event, and what it shows by its session
-rest_front : (now : ℕ) (origin : Origin) (header : Header) (work : Work) → IsFront work.told (flow_shown origin header (event_shown now origin header work)).told
+rest_front : (now : ℕ) (origin : Origin) (header : Header) (work : Work) → IsFront work.told (flow_shown now origin header (event_shown now origin header work)).told
 rest_front now origin header work =
     let heard : Work = event_shown now origin header work in
-    front_further work.told heard.told _ (event_front now origin header work) (flow_front origin header heard)
+    front_further work.told heard.told _ (event_front now origin header work) (flow_front now origin header heard)
 
 pub whole_front : (now : ℕ) (origin : Origin) (header : Header) (payload : List ℕ) (work : Work) → IsFront work.told (whole_shown now origin header payload work).told
 whole_front now origin header payload work =
@@ -294,7 +294,7 @@ heard_begun now origin header payload shown held told mid late more noted most n
     let coded : Work = code_shown header (call_shown now origin header payload (working held told)) in
     let heard : Work = event_shown now origin header coded in
     let at : most ≡ heard.told = ap (λ (w : Work). w.told) (hears ∙ ap (event_shown now origin header) (coded_same now origin header payload shown held told mid more noted is shows notes)) in
-    rw (same, at) (front_further told coded.told _ (coded_front now origin header payload (working held told)) (event_front now origin header coded), flow_front origin header heard)
+    rw (same, at) (front_further told coded.told _ (coded_front now origin header payload (working held told)) (event_front now origin header coded), flow_front now origin header heard)
 
 pub payload_front : (now : ℕ) (origin : Origin) (place session : ℕ) (read : Result SdValue SdError) (work : Work) → IsFront work.told (payload_shown now origin place session read work).told
 payload_front now origin place session (Ok sd) work = sd_front now origin session sd work

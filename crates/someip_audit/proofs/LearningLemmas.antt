@@ -45,13 +45,13 @@ if_same false one other watched is_one is_other = is_other
 event_same : (now : ℕ) (origin : Origin) (header : Header) (work : Work) → learnt (event_shown now origin header work) ≡ learnt work
 event_same now origin header work = if_same (is_event origin header) _ work (learnt work) refl refl
 
-flow_same : (origin : Origin) (header : Header) (work : Work) → learnt (flow_shown origin header work) ≡ learnt work
-flow_same origin header work = if_same (is_notification header.kind) _ work (learnt work) refl refl
+flow_same : (now : ℕ) (origin : Origin) (header : Header) (work : Work) → learnt (flow_shown now origin header work) ≡ learnt work
+flow_same now origin header work = if_same (is_notification header.kind) _ work (learnt work) refl refl
 
 whole_same : (now : ℕ) (origin : Origin) (header : Header) (payload : List ℕ) (work : Work) → learnt (whole_shown now origin header payload work) ≡ learnt work
 whole_same now origin header payload work =
     let coded : Work = code_shown header (call_shown now origin header payload work) in
-    flow_same origin header (event_shown now origin header coded) ∙ event_same now origin header coded
+    flow_same now origin header (event_shown now origin header coded) ∙ event_same now origin header coded
 
 told_same : (now : ℕ) (origin : Origin) (header : Header) (told : Option (Result MessageValue TpError)) (work : Work) → learnt (segment_told now origin header told work) ≡ learnt work
 told_same now origin header None work = refl

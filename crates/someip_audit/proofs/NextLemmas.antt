@@ -16,6 +16,10 @@ use Rattle.audit_traffic.specs.segments.SegmentBooks.{IsWaiting}
 use Rattle.audit_traffic.specs.declared.segments.key.MessageKey.{MessageKey}
 use Rattle.audit_traffic.specs.declared.segments.waiting.Waiting.{Waiting}
 use Rattle.someip_reassembly.specs.declared.key.ReassemblyKey.{ReassemblyKey}
+use Rattle.audit_traffic.specs.declared.gaps.awaited.Awaited.{Awaited}
+use Rattle.audit_traffic.specs.declared.gaps.finding.LostEvent.{LostEvent}
+use Rattle.audit_traffic.specs.declared.gaps.key.MissingEvent.{MissingEvent}
+use Rattle.audit_traffic.specs.gaps.MissingOrder.{exact_missing, missing_total}
 use Rattle.audit_sd.specs.declared.offers.finding.Expired.{Expired}
 use Rattle.audit_sd.specs.offers.OfferRules.{passes_at}
 use Rattle.audit_sd.specs.offers.OfferOrder.{exact_offers, offers_total}
@@ -119,6 +123,18 @@ asked_one held a b x y key =
     let waits : asked_of a ≡ asked_of b = one_value (asked_of a) (asked_of b) (finite.get held.subscriptions.waiting b.key) (sym (ap (finite.get held.subscriptions.waiting) key) ∙ x) y in
     ap (λ k. told_of k (asked_of a)) key ∙ ap (told_of b.key) waits
 
+awaited_of : LostEvent → Awaited
+awaited_of told = record { shown_by = told.shown_by; numbers = told.numbers; until = told.at }
+
+lost_of : MissingEvent → Awaited → LostEvent
+lost_of key awaited = record { at = awaited.until; key = key; shown_by = awaited.shown_by; numbers = awaited.numbers }
+
+lost_one : (held : Held) (a b : LostEvent) → IsAwaited held (due.EventLost a) → IsAwaited held (due.EventLost b) → a.key ≡ b.key → a ≡ b
+unfolding awaited_of lost_of
+lost_one held a b x y key =
+    let waits : awaited_of a ≡ awaited_of b = one_value (awaited_of a) (awaited_of b) (finite.get held.events.gaps.waiting b.key) (sym (ap (finite.get held.events.gaps.waiting) key) ∙ x) y in
+    ap (λ k. lost_of k (awaited_of a)) key ∙ ap (lost_of b.key) waits
+
 one_next : (held : Held) (a b : FellDue) → IsAwaited held a → IsAwaited held b → is_le (fell_cmp a b) ≡ true → is_le (fell_cmp b a) ≡ true → a ≡ b
 one_next held (due.Unanswered a) (due.Unanswered b) x y ab ba =
     ap due.Unanswered
@@ -136,6 +152,10 @@ one_next held (due.SubscribeUnanswered a) (due.SubscribeUnanswered b) x y ab ba 
     (asked_one held a b x y
     (one_key subscriptions_total exact_subscriptions a.key b.key (by_key (due.SubscribeUnanswered a) (due.SubscribeUnanswered b) ab ba)
     (by_key (due.SubscribeUnanswered b) (due.SubscribeUnanswered a) ba ab)))
+one_next held (due.EventLost a) (due.EventLost b) x y ab ba =
+    ap due.EventLost
+    (lost_one held a b x y
+    (one_key missing_total exact_missing a.key b.key (by_key (due.EventLost a) (due.EventLost b) ab ba) (by_key (due.EventLost b) (due.EventLost a) ba ab)))
 one_next held a b x y ab ba = let books = same_book a b ab ba in absurd (omega (arith, books))
 
 next_is_one : (now : ℕ) (state : AuditState) (a b : FellDue) → IsNext now state a → IsNext now state b → a ≡ b

@@ -7,7 +7,7 @@ use Rattle.someip_tables.specs.Lastings.{expired}
 use Rattle.someip_tables.specs.declared.hashed.origin.Origin.{Origin}
 use Rattle.audit_sd.specs.declared.subscriptions.key.SubscriptionKey.{SubscriptionKey}
 use Rattle.audit_sd.specs.receivers.ReceiverTables.{without_expired}
-use Rattle.audit_traffic.specs.events.EventTables.{Events, after_change}
+use Rattle.audit_traffic.specs.sequence.Sequences.{Sequence, after_change}
 use Rattle.someip_audit.specs.declared.fell_due.FellDue.{FellDue}
 use Rattle.someip_audit.specs.declared.finding.Finding.{Finding}
 use Rattle.someip_audit.specs.declared.rules.AuditRules.{AuditRules}
@@ -28,7 +28,7 @@ audit_begun rules ports learns now = empty_held rules ports learns now
 -- ---- what expires
 
 -- the flows between the client and the server of each of these subscriptions are disturbed
-abbrev pub each_disturbed : List SubscriptionKey → Events → Events
+abbrev pub each_disturbed : List SubscriptionKey → Sequence → Sequence
 each_disturbed [] events = events
 each_disturbed (key ∷ keys) events = each_disturbed keys (after_change key.client key.server events)
 

@@ -9,7 +9,7 @@ use Rattle.audit_sd.specs.offers.OfferTables.{OfferTable, coded_offers}
 use Rattle.audit_sd.specs.subscriptions.SubscribeTables.{SubscribeTable, coded_subscribes}
 use Rattle.audit_sd.specs.sessions.SessionBooks.{Sessions, coded_sessions}
 use Rattle.audit_sd.specs.receivers.ReceiverTables.{Receivers, coded_receivers}
-use Rattle.audit_traffic.specs.events.EventTables.{Events, coded_events}
+use Rattle.audit_traffic.specs.sequence.Sequences.{Sequence, coded_sequence, new_sequence}
 use Rattle.someip_audit.specs.declared.rules.AuditRules.{AuditRules}
 use Rattle.someip_audit.specs.WatchedEndpoints.{Watch, coded_watch, watch_begun}
 
@@ -21,7 +21,7 @@ pub record Held : Type 0 where
   pub subscriptions : SubscribeTable
   pub sessions : Sessions
   pub receivers : Receivers
-  pub events : Events
+  pub events : Sequence
   pub watched : Watch
 
 -- the moment so many milliseconds after another, or the last one, if that is earlier
@@ -38,15 +38,15 @@ empty_held rules ports learns now = record {
   subscriptions = record { limit = rules.limit; answer_ms = rules.answer_ms; waiting = finite.empty; told_full = false };
   sessions = record { limit = rules.limit; last = finite.empty; told_full = false };
   receivers = record { limit = rules.limit; settled = moment_after now rules.settle_ms; standing = finite.empty; told = finite.empty; told_full = false };
-  events = record { limit = rules.limit; flows = finite.empty; told_full = false };
+  events = new_sequence (record { limit = rules.limit; overtake_ms = rules.overtake_ms; counting = rules.counting });
   watched = watch_begun ports learns rules.limit;
 }
 
 -- a code, by which a proof tells values apart
 abbrev pub coded_held : Coded Held
 coded_held =
-    code_by (((calls.Book × segments.Book) × (Events × Watch)) × ((OfferTable × SubscribeTable) × (Sessions × Receivers)))
-    (coded× (coded× (coded× codes.coded_book segments.coded_book) (coded× coded_events coded_watch)) (coded× (coded× coded_offers coded_subscribes) (coded× coded_sessions coded_receivers)))
+    code_by (((calls.Book × segments.Book) × (Sequence × Watch)) × ((OfferTable × SubscribeTable) × (Sessions × Receivers)))
+    (coded× (coded× (coded× codes.coded_book segments.coded_book) (coded× coded_sequence coded_watch)) (coded× (coded× coded_offers coded_subscribes) (coded× coded_sessions coded_receivers)))
     (λ h. (((h.calls, h.segments), (h.events, h.watched)), ((h.offers, h.subscriptions), (h.sessions, h.receivers))))
     (λ c. record { calls = c.0.0.0; segments = c.0.0.1; events = c.0.1.0; watched = c.0.1.1; offers = c.1.0.0; subscriptions = c.1.0.1; sessions = c.1.1.0; receivers = c.1.1.1 })
     (λ _. refl)

@@ -10,6 +10,8 @@ use Rattle.audit_traffic.specs.calls.CallBooks as calls
 use Rattle.audit_traffic.specs.calls.Overdue.{IsOpenCall, calls_after_due}
 use Rattle.audit_traffic.specs.segments.MessageKeys.{message_cmp, message_key}
 use Rattle.audit_traffic.specs.segments.SegmentBooks as segments
+use Rattle.audit_traffic.specs.gaps.MissingKeys.{missing_cmp}
+use Rattle.audit_traffic.specs.sequence.Sequences as events
 use Rattle.audit_sd.specs.offers.OfferKeys.{offer_cmp}
 use Rattle.audit_sd.specs.offers.OfferRules.{passes_at}
 use Rattle.audit_sd.specs.offers.OfferTables as offers
@@ -25,6 +27,7 @@ deadline (due.Unanswered told) = told.until
 deadline (due.Missing told) = told.until
 deadline (due.Expired told) = told.at
 deadline (due.SubscribeUnanswered told) = told.at
+deadline (due.EventLost told) = told.at
 
 -- the place of its book among the books
 abbrev pub book_of : FellDue → ℕ
@@ -32,6 +35,7 @@ book_of (due.Unanswered told) = 0
 book_of (due.Missing told) = 1
 book_of (due.Expired told) = 2
 book_of (due.SubscribeUnanswered told) = 3
+book_of (due.EventLost told) = 4
 
 -- by key, of what is of one book
 abbrev pub key_cmp : FellDue → FellDue → Ordering
@@ -39,6 +43,7 @@ key_cmp (due.Unanswered a) (due.Unanswered b) = call_cmp a.call b.call
 key_cmp (due.Missing a) (due.Missing b) = message_cmp (message_key a.key) (message_key b.key)
 key_cmp (due.Expired a) (due.Expired b) = offer_cmp a.key b.key
 key_cmp (due.SubscribeUnanswered a) (due.SubscribeUnanswered b) = subscription_cmp a.key b.key
+key_cmp (due.EventLost a) (due.EventLost b) = missing_cmp a.key b.key
 key_cmp a b = Equal
 
 -- by deadline, then by book, and then by key
@@ -51,6 +56,7 @@ IsAwaited held (due.Unanswered told) = IsOpenCall held.calls.calls told
 IsAwaited held (due.Missing told) = segments.IsWaiting held.segments.waiting told
 IsAwaited held (due.Expired told) = (finite.get held.offers.standing told.key ≡ Some told.offer) × (passes_at told.offer ≡ Some told.at)
 IsAwaited held (due.SubscribeUnanswered told) = finite.get held.subscriptions.waiting told.key ≡ Some (record { origin = told.origin; until = told.at })
+IsAwaited held (due.EventLost told) = finite.get held.events.gaps.waiting told.key ≡ Some (record { shown_by = told.shown_by; numbers = told.numbers; until = told.at })
 
 -- and its deadline has come
 abbrev pub IsDue : ℕ → Held → FellDue → Type 0
@@ -79,6 +85,7 @@ others_after (due.Unanswered told) held = held
 others_after (due.Missing told) held = record held { segments = segments.book_after_due (max held.segments.latest told.until) (Some told) held.segments }
 others_after (due.Expired told) held = record held { offers = offers.after_due (Some told) held.offers }
 others_after (due.SubscribeUnanswered told) held = record held { subscriptions = subscriptions.after_due (Some told) held.subscriptions }
+others_after (due.EventLost told) held = record held { events = events.after_due (Some told) held.events }
 
 abbrev pub others_then : Option FellDue → Held → Held
 others_then None held = held

@@ -17,7 +17,7 @@ use Rattle.audit_sd.specs.declared.receivers.delivery.Delivery.{Delivery}
 use Rattle.audit_sd.specs.receivers.ReceiverTables as receivers
 use Rattle.audit_traffic.specs.declared.events.flow.EventFlow.{EventFlow}
 use Rattle.audit_traffic.specs.declared.events.notification.Notification.{Notification as EventSeen}
-use Rattle.audit_traffic.specs.events.EventTables as events
+use Rattle.audit_traffic.specs.sequence.Sequences as events
 use Rattle.someip_audit.specs.declared.finding.Finding.{Finding}
 use Rattle.someip_audit.specs.declared.finding.Finding.TheVariants as findings
 use Rattle.someip_audit.specs.BooksHeld.{Held}
@@ -78,18 +78,18 @@ abbrev pub event_seen : Origin → Header → EventSeen
 event_seen origin header = record { flow = event_flow origin header; session = header.session }
 
 -- what it shows by its session
-abbrev pub flow_shown : Origin → Header → Work → Work
-flow_shown origin header work =
+abbrev pub flow_shown : ℕ → Origin → Header → Work → Work
+flow_shown now origin header work =
     if is_notification header.kind
     then record {
-      held = record work.held { events = events.after_event (event_seen origin header) work.held.events };
-      told = with_told (option_map (findings.EventSession (event_flow origin header) header.session) (events.told_by (event_seen origin header) work.held.events)) work.told;
+      held = record work.held { events = events.after_event now origin.numbers (event_seen origin header) work.held.events };
+      told = with_told (option_map (findings.EventSession (event_flow origin header) header.session) (events.told_by origin.numbers (event_seen origin header) work.held.events)) work.told;
     }
     else work
 
 -- what it shows of calls, then by its return code, then of those who are subscribed to its event, and then by the event's session
 abbrev pub whole_shown : ℕ → Origin → Header → List ℕ → Work → Work
-whole_shown now origin header payload work = flow_shown origin header (event_shown now origin header (code_shown header (call_shown now origin header payload work)))
+whole_shown now origin header payload work = flow_shown now origin header (event_shown now origin header (code_shown header (call_shown now origin header payload work)))
 
 -- ---- a segment
 

@@ -22,7 +22,7 @@ use Rattle.audit_sd.specs.declared.receivers.entry.ReceiverEntry.{ReceiverEntry}
 use Rattle.audit_sd.specs.declared.receivers.entry.WithdrawnOffer.{WithdrawnOffer}
 use Rattle.audit_sd.specs.receivers.ReceiverTables as receivers
 use Rattle.audit_sd.specs.declared.subscriptions.key.SubscriptionKey.{SubscriptionKey}
-use Rattle.audit_traffic.specs.events.EventTables as events
+use Rattle.audit_traffic.specs.sequence.Sequences as events
 use Rattle.someip_audit.specs.declared.finding.Finding.{Finding}
 use Rattle.someip_audit.specs.declared.finding.Finding.TheVariants as findings
 use Rattle.someip_audit.specs.BooksHeld.{Held}

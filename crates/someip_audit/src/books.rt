@@ -14,8 +14,8 @@ use audit_sd::receivers::ReceiverBook;
 use audit_sd::sessions::SessionBook;
 use audit_sd::subscriptions::SubscribeBook;
 use audit_traffic::calls::{CallBook, CallRules};
-use audit_traffic::events::EventBook;
 use audit_traffic::segments::SegmentBook;
+use audit_traffic::sequence::{SequenceBook, SequenceRules};
 use someip_reassembly::Reassembly;
 use someip_tables::Moment;
 use std::alloc::{AllocError, Global};
@@ -30,7 +30,7 @@ pub(crate) struct Books<S: Reassembly> {
     pub(crate) subscriptions: SubscribeBook,
     pub(crate) sessions: SessionBook,
     pub(crate) receivers: ReceiverBook,
-    pub(crate) events: EventBook,
+    pub(crate) events: SequenceBook,
     pub(crate) watched: Watched,
 }
 
@@ -71,6 +71,11 @@ impl<S: Reassembly> Books<S> {
             answer_ms: rules.answer_ms,
             begins: now,
         };
+        let sequences = SequenceRules {
+            limit: rules.limit,
+            overtake_ms: rules.overtake_ms,
+            counting: rules.counting,
+        };
         Ok(Books {
             calls: CallBook::new(alloc, calls),
             segments,
@@ -78,7 +83,7 @@ impl<S: Reassembly> Books<S> {
             subscriptions: SubscribeBook::new(alloc, rules.limit, rules.answer_ms),
             sessions: SessionBook::new(alloc, rules.limit),
             receivers: ReceiverBook::new(alloc, rules.limit, moment_after(now, rules.settle_ms)),
-            events: EventBook::new(alloc, rules.limit),
+            events: SequenceBook::new(alloc, sequences),
             watched,
         })
     }
@@ -94,7 +99,11 @@ impl<S: Reassembly> Books<S> {
     {
         let segments = self.segments.next_due();
         let offers = self.offers.next_due();
-        let next = earlier(segments, earlier(offers, self.subscriptions.next_due()));
+        let subscriptions = self.subscriptions.next_due();
+        let lost = self.events.next_due();
+        let others = earlier(subscriptions, lost);
+        let rest = earlier(offers, others);
+        let next = earlier(segments, rest);
         let at = soonest(now, next);
         if let Some(call) = self.calls.due(at) {
             return Some(FellDue::Unanswered(call));
@@ -108,7 +117,10 @@ impl<S: Reassembly> Books<S> {
         if is_at(offers, at) {
             return Some(FellDue::Expired(self.offers.due(at)?));
         }
-        Some(FellDue::SubscribeUnanswered(self.subscriptions.due(at)?))
+        if is_at(subscriptions, at) {
+            return Some(FellDue::SubscribeUnanswered(self.subscriptions.due(at)?));
+        }
+        Some(FellDue::EventLost(self.events.due(at)?))
     }
 }
 

@@ -4,7 +4,7 @@ ghost use Rattle.someip_audit.specs.Audits.{each_disturbed, without_passed};
 
 use crate::books::Books;
 use audit_sd::subscriptions::SubscriptionKey;
-use audit_traffic::events::EventBook;
+use audit_traffic::sequence::SequenceBook;
 use someip_reassembly::Reassembly;
 use someip_tables::Moment;
 use std::alloc::{AllocError, Global};
@@ -25,7 +25,7 @@ impl<S: Reassembly> Books<S> {
 }
 
 /// Disturbs the flows between client and server of each of these subscriptions.
-fn disturb_each(events: &mut EventBook, ended: &BTreeSet<SubscriptionKey>)
+fn disturb_each(events: &mut SequenceBook, ended: &BTreeSet<SubscriptionKey>)
     ensures { events.new ≡ each_disturbed ended.now.keys events.old }
 {
     for key in ended.iter() {

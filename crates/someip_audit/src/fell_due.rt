@@ -2,6 +2,7 @@
 use audit_sd::offers::Expired;
 use audit_sd::subscriptions::Unanswered as SubscribeUnanswered;
 use audit_traffic::calls::Unanswered;
+use audit_traffic::gaps::LostEvent;
 use audit_traffic::segments::Missing;
 
 /// What falls due between datagrams, in the order in which it is told at one deadline.
@@ -15,4 +16,6 @@ pub enum FellDue {
     Expired(Expired),
     /// A Subscribe had neither an Ack nor a Nack in time.
     SubscribeUnanswered(SubscribeUnanswered),
+    /// A session of an event was skipped, and did not come in time.
+    EventLost(LostEvent),
 }

@@ -4,6 +4,7 @@ use audit_sd::receivers::Delivery;
 use audit_sd::subscriptions::SubscriptionKey;
 use audit_traffic::calls::CallFinding;
 use audit_traffic::events::EventFlow;
+use audit_traffic::sequence;
 use sd_wire::SdError;
 use someip_reassembly::TpError;
 use someip_wire::{Header, WireError};
@@ -36,7 +37,7 @@ pub enum Finding {
     /// An event to one endpoint, as to who is subscribed.
     Event(Delivery, audit_sd::receivers::Finding),
     /// An event of this flow, to one endpoint or to a group, with this session, by this.
-    EventSession(EventFlow, u16, audit_traffic::events::Finding),
+    EventSession(EventFlow, u16, sequence::Finding),
     /// A segment with this header that reassembly refuses.
     Segment(Header, TpError),
     /// A segment whose payload, which begins at this place, has no room for its TP header.

@@ -5,7 +5,7 @@ ghost use Rattle.std.specs.List.{list_any};
 ghost use Rattle.audit_sd.specs.declared.subscriptions.key.SubscriptionKey.{SubscriptionKey};
 ghost use Rattle.audit_traffic.specs.declared.events.flow.EventFlow.{EventFlow};
 ghost use Rattle.audit_traffic.specs.events.EventRules.{disturbed, is_between};
-ghost use Rattle.audit_traffic.specs.events.EventTables.{Events};
+ghost use Rattle.audit_traffic.specs.sequence.Sequences.{Sequence};
 ghost use Rattle.someip_audit.specs.Audits.{AuditState, Audits, Report, Seen, datagram_shown, each_disturbed};
 ghost use Rattle.std.specs.FinMap as finite;
 ghost use Rattle.std.specs.Ordering.{is_lt};
@@ -208,16 +208,17 @@ pub fn faults_are_told()
 pub fn events_have_sessions()
     ensures to_group { event_flow (from_node 1 1) (header_with 5 kinds.Notification)
         ≡ record { sender = (from_node 1 1).from; service = 0x1234; event = 0x0421; receiver = (from_node 1 1).to } }
-    ensures response { (origin : Origin) (work : Work) → flow_shown origin (header_with 5 kinds.Response) work ≡ work }
+    ensures response { (now : ℕ) (origin : Origin) (work : Work)
+        → flow_shown now origin (header_with 5 kinds.Response) work ≡ work }
 {}
 
 /// What subscriptions that expired leave of the events: a gap of each flow between the client and the
 /// server of one of them is excused, and the other flows stay as they are.
 pub fn what_expires_excuses_gaps()
-    ensures { (keys : List SubscriptionKey) (events : Events) (flow : EventFlow)
-        → finite.get (each_disturbed keys events).flows flow
+    ensures { (keys : List SubscriptionKey) (events : Sequence) (flow : EventFlow)
+        → finite.get (each_disturbed keys events).events.flows flow
         ≡ option_map (λ last. if list_any (λ (key : SubscriptionKey). is_between key.client key.server flow) keys
-        then disturbed last else last) (finite.get events.flows flow) }
+        then disturbed last else last) (finite.get events.events.flows flow) }
 {}
 
 /// What is told of a recording, and what its audit is then, is determined by its datagrams in order.

@@ -124,7 +124,7 @@ impl<S: Reassembly> Books<S> {
         self.saw_call(now, origin, message, findings)?;
         tell_if_any(findings, told_of_code(&message.header))?;
         self.saw_event(now, origin, &message.header, findings)?;
-        self.saw_flow(origin, &message.header, findings)
+        self.saw_flow(now, origin, &message.header, findings)
     }
 
     /// A whole message comes, as to its call.
@@ -179,12 +179,13 @@ impl<S: Reassembly> Books<S> {
     /// A whole message comes, as to the session of its event.
     fn saw_flow(
         &mut self,
+        now: Moment,
         origin: &Origin,
         header: &Header,
         findings: &mut Vec<Finding>,
     ) -> Result<(), AllocError>
         ensures ok { OnOk result (working self.new findings.new.items
-            ≡ flow_shown origin.now header.now (working self.old findings.old.items)) }
+            ≡ flow_shown now origin.now header.now (working self.old findings.old.items)) }
         ensures err { OnErr result (findings.new.items ≡ findings.old.items) }
     {
         if !matches!(header.kind, MessageType::Notification) {
@@ -195,7 +196,7 @@ impl<S: Reassembly> Books<S> {
             flow,
             session: header.session,
         };
-        match self.events.saw(seen)? {
+        match self.events.saw(now, origin.numbers, seen)? {
             Some(shown) => tell(findings, Finding::EventSession(flow, header.session, shown)),
             None => Ok(()),
         }

@@ -1,5 +1,6 @@
 //! The settings of an audit.
 use audit_traffic::segments::SegmentRules;
+use audit_traffic::sequence::Counting;
 
 /// The settings of an audit.
 #[derive(Clone, Copy, Debug, PartialEq, Eq)]
@@ -8,6 +9,10 @@ pub struct AuditRules {
     pub limit: usize,
     /// How many milliseconds an answer may take: that to a REQUEST, and that to a Subscribe.
     pub answer_ms: u32,
+    /// How many milliseconds after a later one a message may come that was overtaken.
+    pub overtake_ms: u32,
+    /// Which events a sender counts together.
+    pub counting: Counting,
     /// For how many milliseconds from the beginning of the recording no event is told that has no
     /// subscription: its Subscribe may be before the recording.
     pub settle_ms: u32,

@@ -11,11 +11,13 @@ use Rattle.clap.specs.declared.Error.{Error}
 use Rattle.clap.specs.declared.error.ErrorKind.{ErrorKind}
 use Rattle.clap.specs.declared.error.ErrorKind.TheVariants as kind
 use Rattle.clap.specs.declared.builder.ArgAction.TheVariants.{Append, SetTrue}
+use Rattle.someipctl_recordings.specs.declared.audit.SettingTexts.{SettingTexts}
 use Rattle.someipctl_cli.specs.declared.command.Command.{Command}
 use Rattle.someipctl_cli.specs.declared.command.Command.TheVariants.{Show, Payload, Encode, Vectors, Run, Recording, Chart, Audit}
 use Rattle.someipctl_cli.specs.declared.command.AuditOptions.{AuditOptions}
 use Rattle.someipctl_cli.specs.declared.command.ChoiceOptions.{ChoiceOptions}
 use Rattle.someipctl_cli.specs.declared.command.PacketOptions.{PacketOptions}
+use Rattle.someipctl_cli.specs.declared.command.SettingOptions.{SettingOptions}
 use Rattle.someipctl_cli.specs.declared.command.RecordingOptions.{RecordingOptions}
 use Rattle.someipctl_cli.specs.declared.command.LineError.{LineError}
 use Rattle.someipctl_cli.specs.declared.command.LineError.TheVariants.{Usage, Help, OutOfMemory}
@@ -108,13 +110,14 @@ recording_usage = (with_rule recording_options (required_many (codes "file"))).t
 abbrev pub chart_usage : Shape
 chart_usage = (with_inputs (new_app (codes "chart"))).top
 
--- `audit [--ports PORTS] [--answer-ms N] [--settle-ms N] [--frames] [--service SERVICES] [--json] [--address A]
--- [--client C] [--from TIME] [--until TIME] [--learned] [--interface N] [--vlan ID] [--dedup MS] FILE..`
-abbrev pub audit_settings : App
-audit_settings = with_rule (with_rule (with_rule (new_app (codes "audit")) (valued (codes "ports"))) (valued (codes "answer-ms"))) (valued (codes "settle-ms"))
+-- `audit [--ports PORTS] [--answer-ms N] [--settle-ms N] [--overtake-ms N] [--sessions HOW] [--frames] [--service SERVICES]
+-- [--json] [--address A] [--client C] [--from TIME] [--until TIME] [--learned] [--interface N] [--vlan ID] [--dedup MS] FILE..`
+abbrev pub with_settings : App → App
+with_settings app =
+    with_rule (with_rule (with_rule (with_rule app (valued (codes "answer-ms"))) (valued (codes "settle-ms"))) (valued (codes "overtake-ms"))) (valued (codes "sessions"))
 
 abbrev pub audit_options : App
-audit_options = with_packets (with_choice (with_json (with_findings audit_settings)))
+audit_options = with_packets (with_choice (with_json (with_findings (with_settings (with_rule (new_app (codes "audit")) (valued (codes "ports")))))))
 
 abbrev pub audit_usage : Shape
 audit_usage = (with_rule audit_options (required_many (codes "file"))).top
@@ -166,6 +169,13 @@ pub record RecordingRequest : Type 0 where
   pub slots : Option Text
   pub timeout : Option Text
 
+-- the settings of an audit
+pub record SettingRequest : Type 0 where
+  pub answer_ms : Option Text
+  pub settle_ms : Option Text
+  pub overtake_ms : Option Text
+  pub sessions : Option Text
+
 -- the options of `audit`
 pub record AuditRequest : Type 0 where
   pub packets : PacketRequest
@@ -174,8 +184,7 @@ pub record AuditRequest : Type 0 where
   pub frames : Bool
   pub json : Bool
   pub service : Option Text
-  pub answer_ms : Option Text
-  pub settle_ms : Option Text
+  pub settings : SettingRequest
 
 -- a command, without where its words lie in memory
 pub data Request : Type 0 where
@@ -217,6 +226,13 @@ asked_by_options o = record {
   timeout = text_at o.timeout;
 }
 
+abbrev pub asked_by_settings : SettingOptions → SettingRequest
+asked_by_settings o = record { answer_ms = text_at o.answer_ms; settle_ms = text_at o.settle_ms; overtake_ms = text_at o.overtake_ms; sessions = text_at o.sessions }
+
+-- the texts that an audit is set by
+abbrev pub texts_of : SettingOptions → SettingTexts
+texts_of o = record { answer_ms = o.answer_ms; settle_ms = o.settle_ms; overtake_ms = o.overtake_ms; sessions = o.sessions }
+
 abbrev pub asked_by_audit_options : AuditOptions → AuditRequest
 asked_by_audit_options o = record {
   packets = asked_by_packets o.packets;
@@ -225,8 +241,7 @@ asked_by_audit_options o = record {
   frames = o.frames;
   json = o.json;
   service = text_at o.service;
-  answer_ms = text_at o.answer_ms;
-  settle_ms = text_at o.settle_ms;
+  settings = asked_by_settings o.settings;
 }
 
 -- what a command asks for
@@ -326,22 +341,30 @@ abbrev pub asked_by_chart : (Text → Option Text) → Option Request
 asked_by_chart value = option_and_then (λ setup. option_map (chart_request setup) (value (codes "schedule"))) (value (codes "setup"))
 
 -- the options of `audit`, by what each matched
-abbrev pub audit_options_of : PacketRequest → ChoiceRequest → (ports frames json service answer_ms settle_ms : Option Text) → AuditRequest
-audit_options_of packets choice ports frames json service answer_ms settle_ms = record {
+abbrev pub setting_options_of : (answer_ms settle_ms overtake_ms sessions : Option Text) → SettingRequest
+setting_options_of answer_ms settle_ms overtake_ms sessions = record { answer_ms = answer_ms; settle_ms = settle_ms; overtake_ms = overtake_ms; sessions = sessions }
+
+abbrev pub no_settings : SettingRequest
+no_settings = setting_options_of None None None None
+
+abbrev pub setting_options_by : (Text → Option Text) → SettingRequest
+setting_options_by value = setting_options_of (value (codes "answer-ms")) (value (codes "settle-ms")) (value (codes "overtake-ms")) (value (codes "sessions"))
+
+abbrev pub audit_options_of : PacketRequest → ChoiceRequest → (ports frames json service : Option Text) → SettingRequest → AuditRequest
+audit_options_of packets choice ports frames json service settings = record {
   packets = packets;
   choice = choice;
   ports = ports;
   frames = is_on frames;
   json = is_on json;
   service = service;
-  answer_ms = answer_ms;
-  settle_ms = settle_ms;
+  settings = settings;
 }
 
 abbrev pub audit_options_by : (Text → Option Text) → AuditRequest
 audit_options_by value =
     audit_options_of (packet_options_by value) (choice_options_by value)
-    (value (codes "ports")) (value (codes "frames")) (value (codes "json")) (value (codes "service")) (value (codes "answer-ms")) (value (codes "settle-ms"))
+    (value (codes "ports")) (value (codes "frames")) (value (codes "json")) (value (codes "service")) (setting_options_by value)
 
 -- what `audit` asks for
 abbrev pub asked_by_audit : (Text → Option Text) → (Text → List Text) → Option Request

@@ -7,7 +7,7 @@ use Rattle.someipctl_io.specs.declared.outcome.Outcome.{Outcome}
 use Rattle.someipctl_io.specs.declared.outcome.Outcome.TheVariants.{Done}
 use Rattle.std.specs.Borrow.{Bor}
 use Rattle.someipctl_cli.specs.declared.failure.Failure.{Failure}
-use Rattle.someipctl_cli.specs.declared.failure.Failure.TheVariants.{Refused, RecordingOf, BadOption, BadServices, BadLimits, BadTimes, LimitAlone, ExpectAndBegins, JsonAndExpected, Usage, NotText, OutOfMemory, CannotRead, CannotWrite}
+use Rattle.someipctl_cli.specs.declared.failure.Failure.TheVariants.{Refused, RecordingOf, BadOption, BadServices, BadLimits, BadSetting, LimitAlone, ExpectAndBegins, JsonAndExpected, Usage, NotText, OutOfMemory, CannotRead, CannotWrite}
 use Rattle.someipctl_cli.specs.declared.failure.Refusal.{Refusal}
 use Rattle.someipctl_io.specs.declared.fault.Fault.{Fault}
 use Rattle.someipctl_io.specs.declared.fault.Fault.TheVariants as faults
@@ -24,7 +24,7 @@ status_of_failure (RecordingOf path fault) = 1
 status_of_failure (BadOption option text usage) = 2
 status_of_failure (BadServices text usage) = 2
 status_of_failure (BadLimits error) = 2
-status_of_failure (BadTimes error) = 2
+status_of_failure (BadSetting error) = 2
 status_of_failure LimitAlone = 2
 status_of_failure ExpectAndBegins = 2
 status_of_failure (JsonAndExpected option) = 2

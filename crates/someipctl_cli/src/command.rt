@@ -7,13 +7,14 @@ ghost use Rattle.someipctl_cli.specs.CommandLine.{asked_by_audit, asked_by_audit
 ghost use Rattle.someipctl_cli.specs.CommandLine.{asked_by_command, asked_by_entered, asked_by_options};
 ghost use Rattle.someipctl_cli.specs.CommandLine.{asked_by_encode, asked_by_payload, asked_by_recording, asked_by_run};
 ghost use Rattle.someipctl_cli.specs.CommandLine.{asked_by_show, asked_by_subcommand, asked_by_vectors};
-ghost use Rattle.someipctl_cli.specs.CommandLine.{asked_by_choice, asked_by_packets, audit_options_by, choice_options_by};
+ghost use Rattle.someipctl_cli.specs.CommandLine.{asked_by_choice, asked_by_packets, asked_by_settings, audit_options_by, choice_options_by};
 ghost use Rattle.someipctl_cli.specs.CommandLine.{is_on, packet_options_by, recording_options_by, requested};
-ghost use Rattle.someipctl_cli.specs.CommandLine.{texts_at, values_of};
+ghost use Rattle.someipctl_cli.specs.CommandLine.{setting_options_by, texts_at, texts_of, values_of};
 
 use crate::grammar::definition;
 use clap::ArgMatches;
 use clap::error::ErrorKind;
+use someipctl_recordings::audit::SettingTexts;
 use std::alloc::{AllocError, Global};
 use std::convert::AsStr;
 use thiserror::Error;
@@ -133,10 +134,35 @@ pub struct AuditOptions<'w> {
     pub json: bool,
     /// The text of the services whose findings are told. None tells all.
     pub service: Option<&'w str>,
+    /// The settings of the audit.
+    pub settings: SettingOptions<'w>,
+}
+
+/// The options that are settings of an audit.
+#[derive(Clone, Copy, PartialEq, Eq)]
+pub struct SettingOptions<'w> {
     /// The text of how many milliseconds an answer may take.
     pub answer_ms: Option<&'w str>,
     /// The text of for how many milliseconds no event without a subscription is told.
     pub settle_ms: Option<&'w str>,
+    /// The text of how many milliseconds after a later one a message may come that was overtaken.
+    pub overtake_ms: Option<&'w str>,
+    /// The text of which events a sender counts together.
+    pub sessions: Option<&'w str>,
+}
+
+impl<'w> SettingOptions<'w> {
+    /// Their texts.
+    pub fn texts(&self) -> SettingTexts<'w>
+        ensures { result ≡ texts_of self.now }
+    {
+        SettingTexts {
+            answer_ms: self.answer_ms,
+            settle_ms: self.settle_ms,
+            overtake_ms: self.overtake_ms,
+            sessions: self.sessions,
+        }
+    }
 }
 
 /// The options of `recording`.
@@ -417,8 +443,18 @@ fn audit_options_matched<'w>(matches: &ArgMatches<'w>) -> AuditOptions<'w>
         frames: is_given(matches, "frames"),
         json: is_given(matches, "json"),
         service: matches.get_str("service"),
+        settings: settings_matched(matches),
+    }
+}
+
+fn settings_matched<'w>(matches: &ArgMatches<'w>) -> SettingOptions<'w>
+    ensures { asked_by_settings result ≡ setting_options_by (first_value (found_of matches.now)) }
+{
+    SettingOptions {
         answer_ms: matches.get_str("answer-ms"),
         settle_ms: matches.get_str("settle-ms"),
+        overtake_ms: matches.get_str("overtake-ms"),
+        sessions: matches.get_str("sessions"),
     }
 }
 

@@ -10,7 +10,7 @@ ghost use Rattle.someipctl_cli.specs.Failures.{status_of_failure};
 use recording::RecordingError;
 use someipctl_io::{Fault, ReadFault};
 use someipctl_recordings::LimitsError;
-use someipctl_recordings::audit::TimesError;
+use someipctl_recordings::audit::SettingError;
 use someipctl_recordings::lists::ListError;
 use someipctl_run::{BadTraceLine, ScheduleRefusal, SetupRefusal};
 use someipctl_show::BadCaptureLine;
@@ -88,9 +88,9 @@ pub enum Failure<'p> {
     /// One of the limits of messages that are put together is none.
     #[error("error: invalid value for '{}': {}\n\nUsage: someipctl recording [OPTIONS] <FILE>...", option_of(*.0), .0)]
     BadLimits(LimitsError),
-    /// One of the times of an audit is none.
-    #[error("error: invalid value for '{}': {}\n\nUsage: someipctl audit [OPTIONS] <FILE>...", option_of_time(*.0), .0)]
-    BadTimes(TimesError),
+    /// One of the settings of an audit is none.
+    #[error("error: invalid value for '{}': {}\n\nUsage: someipctl audit [OPTIONS] <FILE>...", option_of_setting(*.0), .0)]
+    BadSetting(SettingError),
     /// Such a limit was given, and messages are not put together.
     #[error("error: limits of whole messages need '--whole'\n\nUsage: someipctl recording [OPTIONS] <FILE>...")]
     LimitAlone,
@@ -130,7 +130,7 @@ impl<'p> Failure<'p> {
             | Failure::BadOption(_, _, _)
             | Failure::BadServices(_, _)
             | Failure::BadLimits(_)
-            | Failure::BadTimes(_)
+            | Failure::BadSetting(_)
             | Failure::LimitAlone
             | Failure::ExpectAndBegins
             | Failure::JsonAndExpected(_) => 2,
@@ -206,11 +206,13 @@ fn values_of(option: OptionName) -> &'static str {
     }
 }
 
-/// The option that says such a time.
-fn option_of_time(error: TimesError) -> &'static str {
+/// The option that says such a setting.
+fn option_of_setting(error: SettingError) -> &'static str {
     match error {
-        TimesError::BadAnswer => "--answer-ms <N>",
-        TimesError::BadSettle => "--settle-ms <N>",
+        SettingError::BadAnswer => "--answer-ms <N>",
+        SettingError::BadSettle => "--settle-ms <N>",
+        SettingError::BadOvertake => "--overtake-ms <N>",
+        SettingError::BadSessions => "--sessions <HOW>",
     }
 }
 

@@ -9,7 +9,7 @@ ghost use Rattle.someipctl_cli.specs.CommandLine.{audit_usage, chart_usage, cli,
 ghost use Rattle.someipctl_cli.specs.CommandLine.{recording_usage, run_usage, show_usage, vectors_usage};
 ghost use Rattle.someipctl_cli.specs.CommandLine.{flag as flag_rule, required, required_many, valued};
 ghost use Rattle.someipctl_cli.specs.CommandLine.{with_choice, with_filters, with_findings, with_heads, with_inputs, with_json};
-ghost use Rattle.someipctl_cli.specs.CommandLine.{with_packets};
+ghost use Rattle.someipctl_cli.specs.CommandLine.{with_packets, with_settings};
 ghost use Rattle.someipctl_cli.specs.CommandLine.{with_whole};
 
 use crate::examples::{
@@ -176,6 +176,21 @@ fn audit_definition<'d>(alloc: Global) -> Result<clap::Command<'d>, AllocError>
         "PORTS",
         "Looks at these ports beside 30490, and learns none from Offers and Subscribes without --learned",
     );
+    let first = add_settings(alloc, taking(Ok(command), ports));
+    let second = add_json(alloc, add_findings(alloc, first));
+    taking(add_packets(alloc, add_choice(alloc, second)), files(alloc))
+}
+
+/// The command with the options that are settings of an audit.
+fn add_settings<'d>(
+    alloc: Global,
+    command: Result<clap::Command<'d>, AllocError>,
+) -> Result<clap::Command<'d>, AllocError>
+    ensures app { (app : App) → IfOk command.entry (λ c. app_of c ≡ app)
+        → IfOk result (λ r. app_of r ≡ with_settings app) }
+    ensures local { IfOk command.entry (λ c. (out-Command c).has_globals ≡ false)
+        → IfOk result (λ r. (out-Command r).has_globals ≡ false) }
+{
     let answer = valued_option(
         alloc,
         "answer-ms",
@@ -188,10 +203,22 @@ fn audit_definition<'d>(alloc: Global) -> Result<clap::Command<'d>, AllocError>
         "N",
         "The milliseconds at first in which no event without a subscription is told, 10000 without it",
     );
-    let first = taking(Ok(command), ports);
-    let second = taking(first, answer);
-    let third = add_json(alloc, add_findings(alloc, taking(second, settle)));
-    taking(add_packets(alloc, add_choice(alloc, third)), files(alloc))
+    let overtake = valued_option(
+        alloc,
+        "overtake-ms",
+        "N",
+        "The milliseconds that a message may come after one that overtook it, 100 without it",
+    );
+    let sessions = valued_option(
+        alloc,
+        "sessions",
+        "HOW",
+        "Whether a sender counts the sessions of each event, or of all its events: event or sender, event without it",
+    );
+    let first = taking(command, answer);
+    let second = taking(first, settle);
+    let third = taking(second, overtake);
+    taking(third, sessions)
 }
 
 /// The command with the options that number and choose the lines of findings.

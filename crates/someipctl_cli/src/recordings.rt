@@ -95,9 +95,9 @@ fn audit_wanted<'p, R: Files + Print + Eprint + Input + AllocGlobal>(
     options: AuditOptions<'p>,
     wanted: Wanted<'_>,
 ) -> Result<Outcome, Failure<'p>> {
-    let rules = match rules_in(options.answer_ms, options.settle_ms) {
+    let rules = match rules_in(&options.settings.texts()) {
         Ok(rules) => rules,
-        Err(error) => return Err(Failure::BadTimes(error)),
+        Err(error) => return Err(Failure::BadSetting(error)),
     };
     let asked = AuditAsked {
         rules,

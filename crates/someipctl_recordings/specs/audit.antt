@@ -10,5 +10,5 @@ pub mod AuditResult
 pub mod Steps
 pub mod Scenes
 pub mod Runs
-pub mod Times
+pub mod Settings
 pub mod TextScenes

@@ -10,9 +10,9 @@ mod says;
 mod subject;
 mod summary;
 mod tally;
-mod times;
+mod settings;
 
 pub use asked::AuditAsked;
 pub use audits::show_audit;
 pub use kind::Kind;
-pub use times::{TimesError, rules_in};
+pub use settings::{SettingError, SettingTexts, rules_in};

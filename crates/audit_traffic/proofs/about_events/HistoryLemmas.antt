@@ -11,10 +11,10 @@ use Rattle.someip_tables.specs.hashed.Rooms.{may_hold, told_when_full}
 use Rattle.audit_traffic.specs.declared.events.flow.EventFlow.{EventFlow}
 use Rattle.audit_traffic.specs.declared.events.last_event.LastEvent.{LastEvent}
 use Rattle.audit_traffic.specs.declared.events.notification.Notification.{Notification}
-use Rattle.audit_traffic.specs.declared.events.finding.Finding.TheVariants.{Full, Gap, Repeated}
+use Rattle.audit_traffic.specs.declared.events.finding.Finding.TheVariants.{Behind, Full, Gap, Repeated}
 use Rattle.audit_traffic.specs.events.FlowKeys.{flow_cmp}
 use Rattle.audit_traffic.specs.events.FlowOrder.{flows_total, exact_flows}
-use Rattle.audit_traffic.specs.events.EventRules.{disturbed, is_at, is_between, is_loss, is_of_service, is_other, judged, past, renewed}
+use Rattle.audit_traffic.specs.events.EventRules.{disturbed, is_at, is_behind, is_between, is_loss, is_of_service, is_other, judged, past, renewed}
 use Rattle.audit_traffic.specs.events.EventTables.{Events, Flows, after_event, flows_after, told_by}
 use Rattle.audit_traffic.specs.events.EventHistories.{BeganAgain, Came, Changed, Shown, Since, Withdrawn, book_after, book_of, kept_of, shown_after, shown_since, since_after, since_disturbed, since_event, since_got, since_in}
 use Rattle.audit_traffic.proofs.about_events.FlowLemmas.{not_its_own}
@@ -24,11 +24,13 @@ use Rattle.audit_traffic.proofs.about_events.NearestLemmas.{nearest_tells}
 
 renewed_is : (session : ℕ) (before : Option Since) → renewed session (option_map kept_of before) ≡ kept_of (since_event session before)
 renewed_is session None = refl
-renewed_is session (Some since) = cases (session == since.session)
+renewed_is session (Some since) = cases (session == since.session) (is_behind since.session session)
   where
-    cases : (b : Bool) → (if b then kept_of since else record { session = session; is_disturbed = false; nearest = None }) ≡ kept_of (if b then since else record { session = session; is_disturbed = false; got = [] })
-    cases true = refl
-    cases false = refl
+    cases : (a b : Bool) → (if a then kept_of since else if b then kept_of since else record { session = session; is_disturbed = false; nearest = None })
+        ≡ kept_of (if a then since else if b then since else record { session = session; is_disturbed = false; got = [] })
+    cases true b = refl
+    cases false true = refl
+    cases false false = refl
 
 -- the last event of a flow once one came
 get-event : (event : Notification) (flows : Flows) (flow : EventFlow) (before own : Option Since) → finite.get flows flow ≡ option_map kept_of before → finite.get flows event.flow ≡ option_map kept_of own
@@ -133,7 +135,7 @@ kept limit (shown ∷ earlier) fits flow = by shown fits (kept limit earlier (no
 judged_is : (before : Option Since) (session : ℕ) → judged true (option_map kept_of before) session ≡ shown_since before session
 judged_is None session = refl
 judged_is (Some since) session =
-    ap (λ b. if session == since.session then Some Repeated else if not (since.is_disturbed || (session == next_session since.session) || b) then Some (Gap session (next_session since.session)) else None)
+    ap (λ b. if session == since.session then Some Repeated else if is_behind since.session session then Some Behind else if not (since.is_disturbed || (session == next_session since.session) || b) then Some (Gap session (next_session since.session)) else None)
     (nearest_tells since.session session since.got)
 
 -- a book that was never full tells of an event what was shown so far
@@ -154,12 +156,13 @@ told limit shown event fits =
 
 not_full : (losses : Bool) (last : Option LastEvent) (session : ℕ) → judged losses last session ≡ Some Full → ⊥
 not_full losses None session is = cc
-not_full losses (Some last) session is = cases (session == last.session) (losses && is_loss last session) is
+not_full losses (Some last) session is = cases (session == last.session) (is_behind last.session session) (losses && is_loss last session) is
   where
-    cases : (a b : Bool) → (if a then Some Repeated else if b then Some (Gap session (next_session last.session)) else None) ≡ Some Full → ⊥
-    cases true b e = cc
-    cases false true e = cc
-    cases false false e = cc
+    cases : (a b l : Bool) → (if a then Some Repeated else if b then Some Behind else if l then Some (Gap session (next_session last.session)) else None) ≡ Some Full → ⊥
+    cases true b l e = cc
+    cases false true l e = cc
+    cases false false true e = cc
+    cases false false false e = cc
 
 pub full_noted : (event : Notification) (book : Events) → told_by event book ≡ Some Full → (book.told_full ≡ false) × ((after_event event book).told_full ≡ true)
 full_noted event book is = cases (event.session == 0) (may_hold book.limit book.flows event.flow) book.told_full refl is
@@ -181,8 +184,9 @@ no_gap session expected event book full is = cases (event.session == 0) (may_hol
     cases true b v e = cc
     cases false false v e = cc
     cases false true None e = cc
-    cases false true (Some last) e = at (event.session == last.session) e
+    cases false true (Some last) e = at (event.session == last.session) (is_behind last.session event.session) e
       where
-        at : (c : Bool) → (if c then Some Repeated else None) ≡ Some (Gap session expected) → ⊥
-        at true i = cc
-        at false i = cc
+        at : (c d : Bool) → (if c then Some Repeated else if d then Some Behind else None) ≡ Some (Gap session expected) → ⊥
+        at true d i = cc
+        at false true i = cc
+        at false false i = cc

@@ -10,9 +10,9 @@ use Rattle.audit_traffic.specs.declared.events.flow.EventFlow.{EventFlow}
 use Rattle.audit_traffic.specs.declared.events.last_event.LastEvent.{LastEvent}
 use Rattle.audit_traffic.specs.declared.events.notification.Notification.{Notification}
 use Rattle.audit_traffic.specs.declared.events.finding.Finding.{Finding}
-use Rattle.audit_traffic.specs.declared.events.finding.Finding.TheVariants.{Gap, Repeated}
+use Rattle.audit_traffic.specs.declared.events.finding.Finding.TheVariants.{Behind, Gap, Repeated}
 use Rattle.audit_traffic.specs.events.FlowKeys.{flow_cmp}
-use Rattle.audit_traffic.specs.events.EventRules.{ahead, is_at, is_between, is_of_service, is_other, is_skipped, nearer}
+use Rattle.audit_traffic.specs.events.EventRules.{ahead, is_at, is_behind, is_between, is_of_service, is_other, is_skipped, nearer}
 use Rattle.audit_traffic.specs.events.EventTables.{Events, after_change, after_event, after_withdrawal, without}
 
 -- an event came, a subscription of a client at a server changed, a server withdrew an offer of a service, or an address began
@@ -30,10 +30,13 @@ pub record Since : Type 0 where
   pub is_disturbed : Bool
   pub got : List ℕ
 
--- once an event came: one with the session of the last one leaves the last one
+-- once an event came: one with the session of the last one, and one behind it, leaves the last one
 abbrev pub since_event : ℕ → Option Since → Since
 since_event session None = record { session = session; is_disturbed = false; got = [] }
-since_event session (Some since) = if session == since.session then since else record { session = session; is_disturbed = false; got = [] }
+since_event session (Some since) =
+    if session == since.session then since
+    else if is_behind since.session session then since
+    else record { session = session; is_disturbed = false; got = [] }
 
 -- once another receiver got a session, and once the flow was disturbed
 abbrev pub since_got : ℕ → Since → Since
@@ -68,6 +71,7 @@ abbrev pub shown_since : Option Since → ℕ → Option Finding
 shown_since None session = None
 shown_since (Some since) session =
     if session == since.session then Some Repeated
+    else if is_behind since.session session then Some Behind
     else if is_lost since session then Some (Gap session (next_session since.session))
     else None
 

@@ -3,8 +3,8 @@ use Rattle.std.specs.Prelude.{◌≡◌, ◌≢◌, ◌⊎◌, ℕ, true, false,
 use Rattle.someip_tables.specs.Sessions.{next_session}
 use Rattle.audit_traffic.specs.declared.events.flow.EventFlow.{EventFlow}
 use Rattle.audit_traffic.specs.declared.events.notification.Notification.{Notification}
-use Rattle.audit_traffic.specs.declared.events.finding.Finding.TheVariants.{Repeated}
-use Rattle.audit_traffic.specs.events.EventRules.{is_at, is_between, is_of_service, is_other, is_skipped}
+use Rattle.audit_traffic.specs.declared.events.finding.Finding.TheVariants.{Behind, Repeated}
+use Rattle.audit_traffic.specs.events.EventRules.{is_at, is_behind, is_between, is_of_service, is_other, is_skipped}
 use Rattle.audit_traffic.specs.events.EventHistories.{BeganAgain, Came, Changed, Shown, Withdrawn, shown_after}
 
 -- each of these is so
@@ -12,9 +12,9 @@ abbrev pub Each : (Shown → Type 0) → List Shown → Type 0
 Each P [] = Unit {0}
 Each P (shown ∷ more) = P shown × Each P more
 
--- it is no event of a flow with another session, and no reboot of the flow's sender or receiver
+-- it is no event of a flow with another session, unless that is behind, and no reboot of the flow's sender or receiver
 abbrev pub LeavesLast : EventFlow → ℕ → Shown → Type 0
-LeavesLast flow last (Came event) = event.flow ≡ flow → (event.session ≡ 0) ⊎ (event.session ≡ last)
+LeavesLast flow last (Came event) = event.flow ≡ flow → (event.session ≡ 0) ⊎ ((event.session ≡ last) ⊎ (is_behind last event.session ≡ true))
 LeavesLast flow last (Changed client server) = Unit {0}
 LeavesLast flow last (Withdrawn server service) = Unit {0}
 LeavesLast flow last (BeganAgain address) = is_at address flow ≡ false
@@ -33,20 +33,25 @@ LeavesSkipped flow last session (Changed client server) = Unit {0}
 LeavesSkipped flow last session (Withdrawn server service) = Unit {0}
 LeavesSkipped flow last session (BeganAgain address) = Unit {0}
 
--- the last event of a flow came with this session, and was not a repeated one; and this was shown since
+-- the last event of a flow came with this session, and was neither a repeated one nor behind another; and this was shown since
 abbrev pub IsLast : EventFlow → ℕ → List Shown → List Shown → Type 0
 IsLast flow last newer shown =
     (event : Notification) × (older : List Shown) × (shown ≡ newer ++ Came event ∷ older) × (event.flow ≡ flow) × (event.session ≡ last) × (last ≢ 0)
-    × (shown_after older event ≢ Some Repeated) × Each (LeavesLast flow last) newer
+    × ((shown_after older event ≢ Some Repeated) × (shown_after older event ≢ Some Behind)) × Each (LeavesLast flow last) newer
 
 -- an event has the session of the last one of its flow
 abbrev pub IsRepeated : Notification → List Shown → Type 0
 IsRepeated event shown = (newer : List Shown) × IsLast event.flow event.session newer shown
 
--- an event has another session S than the last one of its flow, and not the next one, E; and since the last one no
+-- an event is behind the last one of its flow: by 1 to 64 sessions
+abbrev pub IsBehind : Notification → List Shown → Type 0
+IsBehind event shown =
+    (last : ℕ) × (newer : List Shown) × IsLast event.flow last newer shown × (event.session ≢ 0) × (event.session ≢ last) × (is_behind last event.session ≡ true)
+
+-- an event has another session S than the last one of its flow, is not behind it, and has not the next one, E; and since the last one no
 -- subscription by which the flow goes changed, no offer of its service was withdrawn, and no other receiver got a session
 -- between
 abbrev pub IsGap : ℕ → ℕ → Notification → List Shown → Type 0
 IsGap session expected event shown =
     (last : ℕ) × (newer : List Shown) × IsLast event.flow last newer shown × (event.session ≡ session) × (session ≢ 0) × (session ≢ last)
-    × (next_session last ≡ expected) × (session ≢ expected) × Each (LeavesReceivers event.flow) newer × Each (LeavesSkipped event.flow last session) newer
+    × (is_behind last session ≡ false) × (next_session last ≡ expected) × (session ≢ expected) × Each (LeavesReceivers event.flow) newer × Each (LeavesSkipped event.flow last session) newer

@@ -8,7 +8,7 @@ use Rattle.someip_tables.specs.Sessions.{next_session}
 use Rattle.audit_traffic.specs.declared.events.flow.EventFlow.{EventFlow}
 use Rattle.audit_traffic.specs.declared.events.last_event.LastEvent.{LastEvent}
 use Rattle.audit_traffic.specs.declared.events.finding.Finding.{Finding}
-use Rattle.audit_traffic.specs.declared.events.finding.Finding.TheVariants.{Gap, Repeated}
+use Rattle.audit_traffic.specs.declared.events.finding.Finding.TheVariants.{Behind, Gap, Repeated}
 
 -- ---- sessions
 
@@ -19,6 +19,10 @@ ahead last session = if nat_lt session last then 0xffff - (last - session) else 
 -- a session that lies between the last one and another: ahead of the one, and by less than the other
 abbrev pub is_skipped : ℕ → ℕ → ℕ → Bool
 is_skipped last session skipped = nat_lt 0 (ahead last skipped) && nat_lt (ahead last skipped) (ahead last session)
+
+-- a session is behind the last one, by 1 to 64: an event with it was overtaken, or came twice
+abbrev pub is_behind : ℕ → ℕ → Bool
+is_behind last session = nat_lt 0 (ahead session last) && nat_le (ahead session last) 64
 
 -- the lesser of two distances ahead, where the first is 0 if there is none
 abbrev pub nearer : ℕ → Option ℕ → Option ℕ
@@ -70,13 +74,17 @@ abbrev pub judged : Bool → Option LastEvent → ℕ → Option Finding
 judged losses None session = None
 judged losses (Some last) session =
     if session == last.session then Some Repeated
+    else if is_behind last.session session then Some Behind
     else if losses && is_loss last session then Some (Gap session (next_session last.session))
     else None
 
--- the last event of a flow once one came: a repeated one leaves what is known as it is
+-- the last event of a flow once one came: a repeated one, and one behind the last, leaves what is known as it is
 abbrev pub renewed : ℕ → Option LastEvent → LastEvent
 renewed session None = record { session = session; is_disturbed = false; nearest = None }
-renewed session (Some last) = if session == last.session then last else record { session = session; is_disturbed = false; nearest = None }
+renewed session (Some last) =
+    if session == last.session then last
+    else if is_behind last.session session then last
+    else record { session = session; is_disturbed = false; nearest = None }
 
 -- once another receiver got a session
 abbrev pub past : ℕ → LastEvent → LastEvent

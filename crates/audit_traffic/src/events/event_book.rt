@@ -50,10 +50,10 @@ impl EventBook {
     /// Takes note of an event, and says what it shows.
     ///
     /// One without a session shows nothing, nor does the first of a flow. One with the session of the
-    /// last one is repeated, and leaves that as the last. One with neither that session nor the next one
-    /// shows a gap, where nothing came since the last one by which events may have gone to nobody, and no
-    /// other receiver got a session between; and it is the last one, whether a gap is told or not. Memory
-    /// is taken for a new flow alone, and what is refused for want of it leaves the book as it was.
+    /// last one is repeated, and one up to 64 sessions behind is behind: both leave the last one. One with
+    /// neither of these nor the next session shows a gap, where nothing came since the last one by which
+    /// events may have gone to nobody, and no other receiver got a session between; and it is the last
+    /// one, whether a gap is told or not. Memory is taken for a new flow alone, and what is refused for want of it leaves the book as it was.
     pub fn saw(&mut self, event: Notification) -> Result<Option<Finding>, AllocError>
         ensures told { IfOk result (λ told. told ≡ told_by event self.old) }
         ensures after { IfOk result (λ told. self.new ≡ after_event event self.old) }

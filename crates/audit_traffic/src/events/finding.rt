@@ -5,8 +5,11 @@
 pub enum Finding {
     /// It has the session of the last one of its flow: it came twice.
     Repeated,
-    /// Events before it were lost: it has neither the session of the last one of its flow nor the next
-    /// one, and those between went neither to nobody nor to another receiver.
+    /// It has a session up to 64 behind that of the last one of its flow, which stays the last: it was
+    /// overtaken, or came twice.
+    Behind,
+    /// Events before it are missing: it has neither the session of the last one of its flow nor the next
+    /// one, nor one behind, and those between went neither to nobody nor to another receiver.
     Gap {
         /// The session that it has.
         session: u16,

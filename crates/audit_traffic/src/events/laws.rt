@@ -4,14 +4,14 @@ ghost use Rattle.std.specs.Prelude.{◌≡◌, ◌≢◌, ◌↔◌, ℕ, List, 
 ghost use Rattle.std.specs.FinMap as finite;
 ghost use Rattle.std.specs.List.{list_any};
 ghost use Rattle.std.specs.Option.{option_map};
-ghost use Rattle.audit_traffic.specs.declared.events.finding.Finding.TheVariants.{Full, Gap, Repeated};
+ghost use Rattle.audit_traffic.specs.declared.events.finding.Finding.TheVariants.{Behind, Full, Gap, Repeated};
 ghost use Rattle.audit_traffic.specs.declared.events.flow.EventFlow.{EventFlow};
 ghost use Rattle.audit_traffic.specs.declared.events.notification.Notification.{Notification};
-ghost use Rattle.audit_traffic.specs.events.EventRules.{ahead, is_nearer, is_skipped, judged};
+ghost use Rattle.audit_traffic.specs.events.EventRules.{ahead, is_behind, is_nearer, is_skipped, judged};
 ghost use Rattle.audit_traffic.specs.events.EventTables.{Events, after_event, told_by};
 ghost use Rattle.audit_traffic.specs.events.EventHistories.{BeganAgain, Came, Changed, Shown, Withdrawn, book_of};
 ghost use Rattle.audit_traffic.specs.events.EventHistories.{kept_of, nearest_of, shown_after, since_in};
-ghost use Rattle.audit_traffic.specs.events.EventReasons.{IsGap, IsRepeated};
+ghost use Rattle.audit_traffic.specs.events.EventReasons.{IsBehind, IsGap, IsRepeated};
 ghost use Rattle.audit_traffic.specs.events.EventExamples.{another_comes, comes, event_to, group, last, node};
 
 /// By how many a session is ahead of another, by example: FFFF is followed by 1.
@@ -23,6 +23,18 @@ pub fn sessions_are_ahead()
     ensures behind { ahead 5 4 ≡ 0xfffe }
 {}
 
+/// Which sessions are behind, by example: by 1 to 64, in the order in which they are given.
+pub fn sessions_are_behind()
+    ensures one { is_behind 5 4 ≡ true }
+    ensures same { is_behind 5 5 ≡ false }
+    ensures next { is_behind 5 6 ≡ false }
+    ensures wraps { is_behind 1 0xffff ≡ true }
+    ensures most { is_behind 100 36 ≡ true }
+    ensures too_many { is_behind 100 35 ≡ false }
+    ensures wraps_most { is_behind 4 0xffc3 ≡ true }
+    ensures wraps_too_many { is_behind 4 0xffc2 ≡ false }
+{}
+
 /// What a session shows, by the last event of its flow, by example.
 pub fn findings_by_example()
     ensures first { judged true None 7 ≡ None }
@@ -31,9 +43,12 @@ pub fn findings_by_example()
     ensures repeated { judged true (Some (last 5 false None)) 5 ≡ Some Repeated }
     ensures lost { judged true (Some (last 5 false None)) 7 ≡ Some (Gap 7 6) }
     ensures wraps_beyond { judged true (Some (last 0xffff false None)) 2 ≡ Some (Gap 2 1) }
-    ensures earlier { judged true (Some (last 5 false None)) 4 ≡ Some (Gap 4 6) }
+    ensures behind { judged true (Some (last 5 false None)) 4 ≡ Some Behind }
+    ensures most_behind { judged true (Some (last 100 false None)) 36 ≡ Some Behind }
+    ensures far_behind { judged true (Some (last 100 false None)) 35 ≡ Some (Gap 35 101) }
     // Not where sessions may have gone to nobody; a repeated one is told all the same.
     ensures disturbed { judged true (Some (last 5 true None)) 7 ≡ None }
+    ensures disturbed_behind { judged true (Some (last 5 true None)) 4 ≡ Some Behind }
     ensures disturbed_repeated { judged true (Some (last 5 true None)) 5 ≡ Some Repeated }
     // Not where another receiver got 6; it may have got 7 itself.
     ensures elsewhere { judged true (Some (last 5 false (Some 1))) 7 ≡ None }
@@ -51,11 +66,13 @@ pub fn events_of_one_flow_are_compared()
     ensures lost { shown_after (comes (node 1) 5 ∷ []) (event_to (node 1) 7) ≡ Some (Gap 7 6) }
     ensures once { shown_after (comes (node 1) 7 ∷ comes (node 1) 5 ∷ []) (event_to (node 1) 8)
         ≡ None }
-    // Of two that came in each other's place each is told, and so is the one after them.
+    // Of two that came in each other's place the later one is behind, and leaves the other the last.
     ensures swapped { shown_after (comes (node 1) 7 ∷ comes (node 1) 5 ∷ []) (event_to (node 1) 6)
-        ≡ Some (Gap 6 8) }
+        ≡ Some Behind }
     ensures after_swap { shown_after (comes (node 1) 6 ∷ comes (node 1) 7 ∷ comes (node 1) 5 ∷ [])
-        (event_to (node 1) 8) ≡ Some (Gap 8 7) }
+        (event_to (node 1) 8) ≡ None }
+    ensures repeated_behind { shown_after (comes (node 1) 6 ∷ comes (node 1) 7 ∷ comes (node 1) 5 ∷ [])
+        (event_to (node 1) 7) ≡ Some Repeated }
     ensures without_session { shown_after (comes (node 1) 5 ∷ []) (event_to (node 1) 0) ≡ None }
     ensures past_it { shown_after (comes (node 1) 0 ∷ comes (node 1) 5 ∷ []) (event_to (node 1) 7)
         ≡ Some (Gap 7 6) }
@@ -141,10 +158,12 @@ pub fn a_full_book_tells_no_gap()
         → book.told_full ≡ true → told_by event book ≢ Some (Gap session expected) }
 {}
 
-/// A repeated event and a gap are told exactly where their reasons in plain words hold.
+/// A repeated event, one behind and a gap are told exactly where their reasons in plain words hold.
 pub fn each_finding_has_its_reason()
     ensures repeated { (event : Notification) (shown : List Shown)
         → (shown_after shown event ≡ Some Repeated) ↔ IsRepeated event shown }
+    ensures behind { (event : Notification) (shown : List Shown)
+        → (shown_after shown event ≡ Some Behind) ↔ IsBehind event shown }
     ensures gap { (session expected : ℕ) (event : Notification) (shown : List Shown)
         → (shown_after shown event ≡ Some (Gap session expected))
         ↔ IsGap session expected event shown }

@@ -1,6 +1,6 @@
 //! What sessions show, and what they make of the last event of a flow.
 ghost use Rattle.std.specs.Prelude.{◌≡◌};
-ghost use Rattle.audit_traffic.specs.events.EventRules.{ahead, is_loss, is_nearer, judged, nearer, past, renewed};
+ghost use Rattle.audit_traffic.specs.events.EventRules.{ahead, is_behind, is_loss, is_nearer, judged, nearer, past, renewed};
 
 use crate::events::finding::Finding;
 use crate::events::last_event::LastEvent;
@@ -24,6 +24,9 @@ pub(crate) fn judge(losses: bool, last: Option<LastEvent>, session: u16) -> Opti
     let last = last?;
     if session == last.session {
         return Some(Finding::Repeated);
+    }
+    if is_behind(last.session, session) {
+        return Some(Finding::Behind);
     }
     if losses && is_loss(last, session) {
         return Some(Finding::Gap {
@@ -49,7 +52,7 @@ pub(crate) fn renewed(session: u16, last: Option<LastEvent>) -> LastEvent
     ensures { result ≡ renewed session last }
 {
     match last {
-        Some(last) if session == last.session => last,
+        Some(last) if session == last.session || is_behind(last.session, session) => last,
         _ => LastEvent {
             session,
             is_disturbed: false,
@@ -58,8 +61,19 @@ pub(crate) fn renewed(session: u16, last: Option<LastEvent>) -> LastEvent
     }
 }
 
+/// The most sessions by which an event that was overtaken is behind the last one.
+const MOST_BEHIND: u16 = 64;
+
+/// Whether a session is behind the last one, by 1 to 64.
+fn is_behind(last: u16, session: u16) -> bool
+    ensures { result ≡ is_behind last session }
+{
+    let distance = ahead(session, last);
+    0 < distance && distance <= MOST_BEHIND
+}
+
 /// By how many a session is ahead of another.
-fn ahead(last: u16, session: u16) -> u16
+pub(crate) fn ahead(last: u16, session: u16) -> u16
     ensures { result ≡ ahead last session }
 {
     if session < last {

@@ -8,7 +8,7 @@ use Rattle.someip_wire.specs.Faults as wire
 use Rattle.someip_reassembly.specs.Names.{error_name}
 use Rattle.sd_wire.specs.decoding.Faults as sd
 use Rattle.audit_traffic.specs.declared.calls.CallFinding.TheVariants as calls
-use Rattle.audit_traffic.specs.declared.events.Finding.TheVariants as events
+use Rattle.audit_traffic.specs.declared.sequence.Finding.TheVariants as events
 use Rattle.audit_sd.specs.declared.offers.OfferKey.{OfferKey}
 use Rattle.audit_sd.specs.declared.offers.Finding.TheVariants as offers
 use Rattle.audit_sd.specs.declared.receivers.Finding.TheVariants as receivers
@@ -97,10 +97,10 @@ repeated-shape : (space s dot e session n : List ℕ)
     → (space ++ s) ++ ((dot ++ e) ++ (((space ++ session ++ space) ++ n) ++ [])) ≡ (space ++ (s ++ dot ++ e)) ++ ((space ++ session) ++ ((space ++ n) ++ []))
 repeated-shape space s dot e session n = simp (append_assoc, append-nil)
 
-gap-shape : (space s dot e session n expected x : List ℕ)
-    → (space ++ s) ++ ((dot ++ e) ++ (((space ++ session ++ space) ++ n) ++ (((space ++ expected ++ space) ++ x) ++ [])))
-    ≡ (space ++ (s ++ dot ++ e)) ++ ((space ++ session) ++ ((space ++ n) ++ ((space ++ expected) ++ ((space ++ x) ++ []))))
-gap-shape space s dot e session n expected x = simp (append_assoc, append-nil)
+gap-shape : (space s dot e session n to x : List ℕ)
+    → (space ++ s) ++ ((dot ++ e) ++ (((space ++ session ++ space) ++ n) ++ (((space ++ to ++ space) ++ x) ++ [])))
+    ≡ (space ++ (s ++ dot ++ e)) ++ ((space ++ session) ++ ((space ++ n) ++ ((space ++ to) ++ ((space ++ x) ++ []))))
+gap-shape space s dot e session n to x = simp (append_assoc, append-nil)
 
 finding-words : (finding : Finding) → fields_text Plain (finding_fields finding) ≡ spaced (said finding).words
 finding-words (findings.Malformed fault) = malformed-words (wire.fault_name fault) (wire.fault_place fault)
@@ -126,9 +126,11 @@ finding-words (findings.Error h) = ap (λ (t : List ℕ). (codes " " ++ hex2 h.c
 finding-words (findings.Event delivery receivers.Unsubscribed) = event-shape (codes " ") (hex4 delivery.service) (codes ".") (hex4 delivery.event)
 finding-words (findings.Event delivery receivers.Full) = refl
 finding-words (findings.EventSession flow session events.Repeated) = repeated-shape (codes " ") (hex4 flow.service) (codes ".") (hex4 flow.event) (codes "session") (hex4 session)
-finding-words (findings.EventSession flow session (events.Gap has expected)) =
-    gap-shape (codes " ") (hex4 flow.service) (codes ".") (hex4 flow.event) (codes "session") (hex4 has) (codes "expected") (hex4 expected)
-finding-words (findings.EventSession flow session events.Full) = refl
+finding-words (findings.EventSession flow session events.Overtaken) = repeated-shape (codes " ") (hex4 flow.service) (codes ".") (hex4 flow.event) (codes "session") (hex4 session)
+finding-words (findings.EventSession flow session (events.Lost first last)) =
+    gap-shape (codes " ") (hex4 flow.service) (codes ".") (hex4 flow.event) (codes "session") (hex4 first) (codes "to") (hex4 last)
+finding-words (findings.EventSession flow session events.EventsFull) = refl
+finding-words (findings.EventSession flow session events.GapsFull) = refl
 finding-words (findings.Segment h refusal) = ap (λ (t : List ℕ). (codes " " ++ error_name refusal) ++ t) (call-words [] h.service h.method h.client h.session)
 finding-words findings.EndpointsFull = refl
 
@@ -137,6 +139,7 @@ due-words (due.Unanswered told) = call-words [] told.call.service told.call.meth
 due-words (due.Missing told) = call-words [] told.key.service told.key.method told.key.client told.key.session
 due-words (due.Expired told) = offer-plain told.key
 due-words (due.SubscribeUnanswered told) = subscription-plain told.key
+due-words (due.EventLost told) = repeated-shape (codes " ") (hex4 told.shown_by.service) (codes ".") (hex4 told.shown_by.event) (codes "session") (hex4 told.key.session)
 
 -- ---- lines
 

@@ -50,12 +50,14 @@ line_if false line = []
 abbrev pub time_at : ℕ → Time
 time_at millis = record { seconds = millis / 1000; nanoseconds = millis % 1000 * 1000000 }
 
--- the datagram of what fell due: with the request, the first segment, the newest Offer or the Subscribe
+-- the datagram of what fell due: with the request, the first segment, the newest Offer, the Subscribe or
+-- the event that skipped a session
 abbrev pub origin_of_due : FellDue → Origin
 origin_of_due (due.Unanswered told) = record { numbers = told.numbers; from = told.call.from; to = told.call.to }
 origin_of_due (due.Missing told) = record { numbers = told.numbers; from = told.key.source; to = told.key.destination }
 origin_of_due (due.Expired told) = told.offer.origin
 origin_of_due (due.SubscribeUnanswered told) = told.origin
+origin_of_due (due.EventLost told) = record { numbers = told.numbers; from = told.shown_by.sender; to = told.shown_by.receiver }
 
 -- the line of what fell due, at its deadline
 abbrev pub due_line : Form → Bool → FellDue → List ℕ

@@ -1,7 +1,7 @@
 -- The kinds of findings, as the summary of an audit names them.
 use Rattle.std.specs.Prelude.{ℕ, ◌==◌, if◌then◌else◌, List, [], ◌∷◌, map, codes}
 use Rattle.someipctl_recordings.specs.declared.audit.kind.Kind.{Kind}
-use Rattle.someipctl_recordings.specs.declared.audit.kind.Kind.TheVariants.{Malformed, BadRun, NoEndpoint, Reboot, SdSession, Unanswered, Late, Error, Unasked, Repeated, KeyReused, EventRepeated, EventGap, EventUnsubscribed, Segments, SegmentsMissing, OfferExpired, OfferMoved, Nack, SubscribeUnanswered, Full}
+use Rattle.someipctl_recordings.specs.declared.audit.kind.Kind.TheVariants.{Malformed, BadRun, NoEndpoint, Reboot, SdSession, Unanswered, Late, Error, Unasked, Repeated, KeyReused, EventRepeated, EventOvertaken, EventGap, EventUnsubscribed, Segments, SegmentsMissing, OfferExpired, OfferMoved, Nack, SubscribeUnanswered, Full}
 
 -- the words of a kind
 abbrev pub kind_words : Kind → List ℕ
@@ -17,6 +17,7 @@ kind_words Unasked = codes "unasked"
 kind_words Repeated = codes "repeated"
 kind_words KeyReused = codes "key reused"
 kind_words EventRepeated = codes "event repeated"
+kind_words EventOvertaken = codes "event overtaken"
 kind_words EventGap = codes "event gap"
 kind_words EventUnsubscribed = codes "event unsubscribed"
 kind_words Segments = codes "segments"
@@ -34,7 +35,7 @@ kind_name kind = map (λ b. if b == 0x20 then 0x2D else b) (kind_words kind)
 -- all of them, in the order of the summary
 unfoldable pub all_kinds : List Kind
 all_kinds =
-    Malformed ∷ BadRun ∷ NoEndpoint ∷ Reboot ∷ SdSession ∷ Unanswered ∷ Late ∷ Error ∷ Unasked ∷ Repeated ∷ KeyReused ∷ EventRepeated ∷ EventGap
+    Malformed ∷ BadRun ∷ NoEndpoint ∷ Reboot ∷ SdSession ∷ Unanswered ∷ Late ∷ Error ∷ Unasked ∷ Repeated ∷ KeyReused ∷ EventRepeated ∷ EventOvertaken ∷ EventGap
     ∷ EventUnsubscribed ∷ Segments ∷ SegmentsMissing ∷ OfferExpired ∷ OfferMoved ∷ Nack ∷ SubscribeUnanswered ∷ Full ∷ []
 
 -- the number of a kind in that order, by which kinds are told apart
@@ -51,12 +52,13 @@ kind_number Unasked = 8
 kind_number Repeated = 9
 kind_number KeyReused = 10
 kind_number EventRepeated = 11
-kind_number EventGap = 12
-kind_number EventUnsubscribed = 13
-kind_number Segments = 14
-kind_number SegmentsMissing = 15
-kind_number OfferExpired = 16
-kind_number OfferMoved = 17
-kind_number Nack = 18
-kind_number SubscribeUnanswered = 19
-kind_number Full = 20
+kind_number EventOvertaken = 12
+kind_number EventGap = 13
+kind_number EventUnsubscribed = 14
+kind_number Segments = 15
+kind_number SegmentsMissing = 16
+kind_number OfferExpired = 17
+kind_number OfferMoved = 18
+kind_number Nack = 19
+kind_number SubscribeUnanswered = 20
+kind_number Full = 21

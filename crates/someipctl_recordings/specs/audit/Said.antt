@@ -7,8 +7,8 @@ use Rattle.sd_wire.specs.decoding.Faults as sd
 use Rattle.audit_traffic.specs.declared.calls.CallFinding.{CallFinding}
 use Rattle.audit_traffic.specs.declared.calls.CallFinding.TheVariants as calls
 use Rattle.audit_traffic.specs.declared.events.EventFlow.{EventFlow}
-use Rattle.audit_traffic.specs.declared.events.Finding.{Finding as EventFinding}
-use Rattle.audit_traffic.specs.declared.events.Finding.TheVariants as events
+use Rattle.audit_traffic.specs.declared.sequence.Finding.{Finding as EventFinding}
+use Rattle.audit_traffic.specs.declared.sequence.Finding.TheVariants as events
 use Rattle.audit_sd.specs.declared.offers.OfferKey.{OfferKey}
 use Rattle.audit_sd.specs.declared.offers.Finding.{Finding as OfferFinding}
 use Rattle.audit_sd.specs.declared.offers.Finding.TheVariants as offers
@@ -101,9 +101,11 @@ said_of_call h calls.Full = full (codes "calls")
 
 abbrev pub said_of_event : EventFlow → ℕ → EventFinding → Said
 said_of_event flow session events.Repeated = says kinds.EventRepeated (ids_text flow.service flow.event ∷ codes "session" ∷ hex4 session ∷ [])
-said_of_event flow session (events.Gap has expected) =
-    says kinds.EventGap (ids_text flow.service flow.event ∷ codes "session" ∷ hex4 has ∷ codes "expected" ∷ hex4 expected ∷ [])
-said_of_event flow session events.Full = full (codes "events")
+said_of_event flow session events.Overtaken = says kinds.EventOvertaken (ids_text flow.service flow.event ∷ codes "session" ∷ hex4 session ∷ [])
+said_of_event flow session (events.Lost first last) =
+    says kinds.EventGap (ids_text flow.service flow.event ∷ codes "session" ∷ hex4 first ∷ codes "to" ∷ hex4 last ∷ [])
+said_of_event flow session events.EventsFull = full (codes "events")
+said_of_event flow session events.GapsFull = full (codes "gaps")
 
 -- what is said of a finding
 abbrev pub said : Finding → Said
@@ -131,3 +133,4 @@ said_of_due (due.Unanswered told) = says kinds.Unanswered (call_words told.call.
 said_of_due (due.Missing told) = says kinds.SegmentsMissing (call_words told.key.service told.key.method told.key.client told.key.session)
 said_of_due (due.Expired told) = says kinds.OfferExpired (offer_words told.key)
 said_of_due (due.SubscribeUnanswered told) = says kinds.SubscribeUnanswered (subscription_words told.key)
+said_of_due (due.EventLost told) = says kinds.EventGap (ids_text told.shown_by.service told.shown_by.event ∷ codes "session" ∷ hex4 told.key.session ∷ [])

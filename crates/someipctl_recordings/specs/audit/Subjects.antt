@@ -9,8 +9,8 @@ use Rattle.recording.specs.declared.Time.{Time}
 use Rattle.someip_wire.specs.declared.Header.{Header}
 use Rattle.audit_traffic.specs.declared.calls.CallFinding.{CallFinding}
 use Rattle.audit_traffic.specs.declared.calls.CallFinding.TheVariants as calls
-use Rattle.audit_traffic.specs.declared.events.Finding.{Finding as EventFinding}
-use Rattle.audit_traffic.specs.declared.events.Finding.TheVariants as events
+use Rattle.audit_traffic.specs.declared.sequence.Finding.{Finding as EventFinding}
+use Rattle.audit_traffic.specs.declared.sequence.Finding.TheVariants as events
 use Rattle.audit_sd.specs.declared.offers.Finding.{Finding as OfferFinding}
 use Rattle.audit_sd.specs.declared.offers.Finding.TheVariants as offers
 use Rattle.audit_sd.specs.declared.receivers.Finding.{Finding as ReceiverFinding}
@@ -65,7 +65,8 @@ subject_of_call h calls.Full = None
 subject_of_call h _ = Some (about_call h.service h.method h.client)
 
 abbrev pub subject_of_event : ℕ → ℕ → EventFinding → Option Subject
-subject_of_event service event events.Full = None
+subject_of_event service event events.EventsFull = None
+subject_of_event service event events.GapsFull = None
 subject_of_event service event _ = Some (about_event service event)
 
 abbrev pub subject : Finding → Option Subject
@@ -85,12 +86,13 @@ subject (findings.EventSession flow session shown) = subject_of_event flow.servi
 subject (findings.Segment h refusal) = Some (about_call h.service h.method h.client)
 subject findings.EndpointsFull = None
 
--- what fell due is about a call, a message, an offer or a subscription
+-- what fell due is about a call, a message, an offer, a subscription or an event
 abbrev pub subject_of_due : FellDue → Subject
 subject_of_due (due.Unanswered told) = about_call told.call.service told.call.method told.call.client
 subject_of_due (due.Missing told) = about_call told.key.service told.key.method told.key.client
 subject_of_due (due.Expired told) = about_service told.key.service
 subject_of_due (due.SubscribeUnanswered told) = about_service told.key.service
+subject_of_due (due.EventLost told) = about_event told.shown_by.service told.shown_by.event
 
 -- ---- which are told
 

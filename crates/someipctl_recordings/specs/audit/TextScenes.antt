@@ -8,6 +8,8 @@ use Rattle.someip_tables.specs.declared.Deadline.TheVariants.{At}
 use Rattle.someip_tables.specs.declared.hashed.Origin.{Origin}
 use Rattle.audit_traffic.specs.declared.calls.Unanswered.{Unanswered as UnansweredCall}
 use Rattle.audit_traffic.specs.declared.events.EventFlow.{EventFlow}
+use Rattle.audit_traffic.specs.declared.gaps.LostEvent.{LostEvent}
+use Rattle.audit_traffic.specs.declared.sequence.Counting.TheVariants.{ByEvent}
 use Rattle.audit_sd.specs.declared.offers.Expired.{Expired}
 use Rattle.audit_sd.specs.declared.offers.OfferKey.{OfferKey}
 use Rattle.audit_sd.specs.declared.receivers.Delivery.{Delivery}
@@ -91,6 +93,15 @@ expired_1 = record { at = 8003; key = offer_1; offer = record { endpoint = socke
 abbrev pub subscribe_1 : UnansweredSubscribe
 subscribe_1 = record { at = 9000; key = key_1; origin = origin_1 }
 
+-- a session of an event that did not come
+abbrev pub lost_1 : LostEvent
+lost_1 = record {
+  at = 9100;
+  key = record { sender = socket 1 30509; service = 0x1234; event = 0x8001; session = 9 };
+  shown_by = flow_1;
+  numbers = record { datagram = 8; frame = 9 };
+}
+
 -- ---- what is asked for
 
 -- a whole service, and a method of one
@@ -103,7 +114,7 @@ method_of service method = record { service = service; method = Some method }
 -- an audit that tells the findings that are chosen so
 abbrev asks : WantedValue → AskedAudit
 asks wanted = record {
-  rules = record { limit = 65536; answer_ms = 2000; settle_ms = 10000; segments = record { slots = 16; limit = 1048576; timeout_ms = 5000 } };
+  rules = record { limit = 65536; answer_ms = 2000; overtake_ms = 100; counting = ByEvent; settle_ms = 10000; segments = record { slots = 16; limit = 1048576; timeout_ms = 5000 } };
   wanted = wanted;
   form = Plain;
   frames = false;

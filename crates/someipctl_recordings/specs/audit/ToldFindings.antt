@@ -9,8 +9,8 @@ use Rattle.sd_wire.specs.decoding.Faults as sd
 use Rattle.audit_traffic.specs.declared.calls.CallFinding.{CallFinding}
 use Rattle.audit_traffic.specs.declared.calls.CallFinding.TheVariants as calls
 use Rattle.audit_traffic.specs.declared.events.EventFlow.{EventFlow}
-use Rattle.audit_traffic.specs.declared.events.Finding.{Finding as EventFinding}
-use Rattle.audit_traffic.specs.declared.events.Finding.TheVariants as events
+use Rattle.audit_traffic.specs.declared.sequence.Finding.{Finding as EventFinding}
+use Rattle.audit_traffic.specs.declared.sequence.Finding.TheVariants as events
 use Rattle.audit_sd.specs.declared.offers.OfferKey.{OfferKey}
 use Rattle.audit_sd.specs.declared.offers.Finding.{Finding as OfferFinding}
 use Rattle.audit_sd.specs.declared.offers.Finding.TheVariants as offers
@@ -103,9 +103,12 @@ subscription_fields key =
 abbrev pub event_fields : (service event : ℕ) → List ToldField
 event_fields service event = field (codes " ") (codes "service") (id service) ∷ field (codes ".") (codes "event") (id event) ∷ []
 
--- the session that came, and the one that was expected
+-- a session, the last of several, and the one that was expected
 abbrev pub session_field : ℕ → ToldField
 session_field session = field (codes " session ") (codes "session") (id session)
+
+abbrev pub last_field : ℕ → ToldField
+last_field last = field (codes " to ") (codes "last") (id last)
 
 abbrev pub expected_field : ℕ → ToldField
 expected_field expected = field (codes " expected ") (codes "expected") (id expected)
@@ -139,8 +142,10 @@ fields_of_call h calls.Full = full_fields (codes "calls")
 
 abbrev pub fields_of_event : EventFlow → ℕ → EventFinding → List ToldField
 fields_of_event flow session events.Repeated = event_fields flow.service flow.event ++ session_field session ∷ []
-fields_of_event flow session (events.Gap has expected) = event_fields flow.service flow.event ++ session_field has ∷ expected_field expected ∷ []
-fields_of_event flow session events.Full = full_fields (codes "events")
+fields_of_event flow session events.Overtaken = event_fields flow.service flow.event ++ session_field session ∷ []
+fields_of_event flow session (events.Lost first last) = event_fields flow.service flow.event ++ session_field first ∷ last_field last ∷ []
+fields_of_event flow session events.EventsFull = full_fields (codes "events")
+fields_of_event flow session events.GapsFull = full_fields (codes "gaps")
 
 -- what is told of a finding behind its kind
 abbrev pub finding_fields : Finding → List ToldField
@@ -168,6 +173,7 @@ due_fields (due.Unanswered told) = call_fields (codes " ") told.call.service tol
 due_fields (due.Missing told) = call_fields (codes " ") told.key.service told.key.method told.key.client told.key.session
 due_fields (due.Expired told) = offer_fields told.key
 due_fields (due.SubscribeUnanswered told) = subscription_fields told.key
+due_fields (due.EventLost told) = event_fields told.shown_by.service told.shown_by.event ++ session_field told.key.session ∷ []
 
 -- ---- lines
 

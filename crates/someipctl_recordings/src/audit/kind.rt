@@ -29,6 +29,8 @@ pub enum Kind {
     KeyReused,
     /// An event came twice.
     EventRepeated,
+    /// An event came after a later one.
+    EventOvertaken,
     /// Events before an event were lost.
     EventGap,
     /// An event went to an endpoint without a subscription.
@@ -50,7 +52,7 @@ pub enum Kind {
 }
 
 /// How many kinds there are.
-pub(crate) const KIND_COUNT: usize = 21;
+pub(crate) const KIND_COUNT: usize = 22;
 
 /// All kinds, in the order of the summary.
 #[tactic(auto, unfolding(crate::specs::audit::Kinds::all_kinds))]
@@ -70,6 +72,7 @@ pub(crate) fn kinds() -> [Kind; KIND_COUNT]
         Kind::Repeated,
         Kind::KeyReused,
         Kind::EventRepeated,
+        Kind::EventOvertaken,
         Kind::EventGap,
         Kind::EventUnsubscribed,
         Kind::Segments,
@@ -100,6 +103,7 @@ impl Kind {
             Kind::Repeated => "repeated",
             Kind::KeyReused => "key reused",
             Kind::EventRepeated => "event repeated",
+            Kind::EventOvertaken => "event overtaken",
             Kind::EventGap => "event gap",
             Kind::EventUnsubscribed => "event unsubscribed",
             Kind::Segments => "segments",
@@ -129,6 +133,7 @@ impl Kind {
             Kind::Repeated => "repeated",
             Kind::KeyReused => "key-reused",
             Kind::EventRepeated => "event-repeated",
+            Kind::EventOvertaken => "event-overtaken",
             Kind::EventGap => "event-gap",
             Kind::EventUnsubscribed => "event-unsubscribed",
             Kind::Segments => "segments",

@@ -6,7 +6,7 @@ ghost use Rattle.sd_wire.specs.declared.SdError.TheVariants as sd;
 ghost use Rattle.someip_wire.specs.declared.WireError.TheVariants as wire;
 ghost use Rattle.someip_reassembly.specs.declared.TpError.TheVariants as segments;
 ghost use Rattle.audit_traffic.specs.declared.calls.CallFinding.TheVariants as calls;
-ghost use Rattle.audit_traffic.specs.declared.events.Finding.TheVariants as events;
+ghost use Rattle.audit_traffic.specs.declared.sequence.Finding.TheVariants as events;
 ghost use Rattle.audit_sd.specs.declared.offers.Finding.TheVariants as offers;
 ghost use Rattle.audit_sd.specs.declared.receivers.Finding.TheVariants as receivers;
 ghost use Rattle.audit_sd.specs.declared.sessions.Finding.TheVariants as sessions;
@@ -30,7 +30,7 @@ ghost use Rattle.someipctl_recordings.specs.audit.SeenIn.{Tells, looked_of};
 ghost use Rattle.someipctl_recordings.specs.audit.Subjects.{ChoosesNone};
 ghost use Rattle.someipctl_recordings.specs.audit.TextScenes.{before, method_of, of_address, of_client, of_services, whole_service};
 ghost use Rattle.someipctl_recordings.specs.audit.TextScenes.{error_1, event_1, flow_1, header_1, instance_1, key_1, offer_1, origin_1};
-ghost use Rattle.someipctl_recordings.specs.audit.TextScenes.{expired_1, missing_1, subscribe_1, unanswered_1};
+ghost use Rattle.someipctl_recordings.specs.audit.TextScenes.{expired_1, lost_1, missing_1, subscribe_1, unanswered_1};
 
 /// What the lines of findings say, by example.
 pub fn findings_have_texts()
@@ -56,8 +56,12 @@ pub fn findings_have_texts()
         ≡ codes " key reused 1234.0421 client 0101 session 0002\n" }
     ensures twice { said_text (said (findings.EventSession flow_1 9 events.Repeated))
         ≡ codes " event repeated 1234.8001 session 0009\n" }
-    ensures gap { said_text (said (findings.EventSession flow_1 9 (events.Gap 9 7)))
-        ≡ codes " event gap 1234.8001 session 0009 expected 0007\n" }
+    ensures overtaken { said_text (said (findings.EventSession flow_1 9 events.Overtaken))
+        ≡ codes " event overtaken 1234.8001 session 0009\n" }
+    ensures gap { said_text (said_of_due (due.EventLost lost_1)) ≡ codes " event gap 1234.8001 session 0009\n" }
+    ensures wide_gap { said_text (said (findings.EventSession flow_1 0x59 (events.Lost 7 0x58)))
+        ≡ codes " event gap 1234.8001 session 0007 to 0058\n" }
+    ensures gaps { said_text (said (findings.EventSession flow_1 9 events.GapsFull)) ≡ codes " full gaps\n" }
     ensures unsubscribed { said_text (said (findings.Event event_1 receivers.Unsubscribed))
         ≡ codes " event unsubscribed 1234.8001\n" }
     ensures segment { said_text (said (findings.Segment header_1 segments.Conflict))
@@ -90,6 +94,8 @@ pub fn lines_have_a_time_and_a_datagram()
         ≡ codes "8.003000000 12 192.168.0.1:40000 192.168.0.2:30490 offer expired 1234.0001 major 02\n" }
     ensures subscribe { due_line Plain false (due.SubscribeUnanswered subscribe_1)
         ≡ codes "9.000000000 12 192.168.0.1:40000 192.168.0.2:30490 subscribe unanswered 1234.0001 major 02 group 0005 counter 3\n" }
+    ensures lost { due_line Plain false (due.EventLost lost_1)
+        ≡ codes "9.100000000 8 192.168.0.1:30509 192.168.0.2:40000 event gap 1234.8001 session 0009\n" }
 {}
 
 /// A plain line is the plain form of what is told: for every finding, and for all that fell due, it has the head
@@ -119,12 +125,14 @@ pub fn findings_are_objects()
         ≡ codes "{\"kind\":\"no-endpoint\",\"datagram\":12,\"time\":null,\"from\":\"192.168.0.1:40000\",\"to\":\"192.168.0.2:30490\",\"service\":\"1234\",\"instance\":\"0001\"}\n" }
     ensures error { finding_line Json false None origin_1 (findings.Error error_1)
         ≡ codes "{\"kind\":\"error\",\"datagram\":12,\"time\":null,\"from\":\"192.168.0.1:40000\",\"to\":\"192.168.0.2:30490\",\"code\":\"03\",\"service\":\"1234\",\"method\":\"0421\",\"client\":\"0101\",\"session\":\"0002\"}\n" }
-    ensures gap { finding_line Json false None origin_1 (findings.EventSession flow_1 9 (events.Gap 9 7))
-        ≡ codes "{\"kind\":\"event-gap\",\"datagram\":12,\"time\":null,\"from\":\"192.168.0.1:40000\",\"to\":\"192.168.0.2:30490\",\"service\":\"1234\",\"event\":\"8001\",\"session\":\"0009\",\"expected\":\"0007\"}\n" }
+    ensures gap { finding_line Json false None origin_1 (findings.EventSession flow_1 0x59 (events.Lost 7 0x58))
+        ≡ codes "{\"kind\":\"event-gap\",\"datagram\":12,\"time\":null,\"from\":\"192.168.0.1:40000\",\"to\":\"192.168.0.2:30490\",\"service\":\"1234\",\"event\":\"8001\",\"session\":\"0007\",\"last\":\"0058\"}\n" }
     ensures full { finding_line Json false None origin_1 (findings.Event event_1 receivers.Full)
         ≡ codes "{\"kind\":\"full\",\"datagram\":12,\"time\":null,\"from\":\"192.168.0.1:40000\",\"to\":\"192.168.0.2:30490\",\"name\":\"receivers\"}\n" }
     ensures missing { due_line Json true (due.Missing missing_1)
         ≡ codes "{\"kind\":\"segments-missing\",\"datagram\":9,\"frame\":11,\"time\":\"7.000000000\",\"from\":\"192.168.0.1:30509\",\"to\":\"192.168.0.2:40001\",\"service\":\"1234\",\"method\":\"0421\",\"client\":\"0101\",\"session\":\"0002\"}\n" }
+    ensures lost { due_line Json false (due.EventLost lost_1)
+        ≡ codes "{\"kind\":\"event-gap\",\"datagram\":8,\"time\":\"9.100000000\",\"from\":\"192.168.0.1:30509\",\"to\":\"192.168.0.2:40000\",\"service\":\"1234\",\"event\":\"8001\",\"session\":\"0009\"}\n" }
     ensures subscribe { due_line Json false (due.SubscribeUnanswered subscribe_1)
         ≡ codes "{\"kind\":\"subscribe-unanswered\",\"datagram\":12,\"time\":\"9.000000000\",\"from\":\"192.168.0.1:40000\",\"to\":\"192.168.0.2:30490\",\"service\":\"1234\",\"instance\":\"0001\",\"major\":\"02\",\"group\":\"0005\",\"counter\":3}\n" }
 {}

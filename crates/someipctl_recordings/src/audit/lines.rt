@@ -150,10 +150,12 @@ fn deadline_of(told: &FellDue) -> u64
         FellDue::Missing(told) => told.until,
         FellDue::Expired(told) => told.at,
         FellDue::SubscribeUnanswered(told) => told.at,
+        FellDue::EventLost(told) => told.at,
     }
 }
 
-/// The datagram of what fell due: with the request, the first segment, the newest Offer or the Subscribe.
+/// The datagram of what fell due: with the request, the first segment, the newest Offer, the Subscribe or the
+/// event that skipped a session.
 fn origin_of_due(told: &FellDue) -> Origin
     ensures { result ≡ origin_of_due told.now }
 {
@@ -170,5 +172,10 @@ fn origin_of_due(told: &FellDue) -> Origin
         },
         FellDue::Expired(told) => told.offer.origin,
         FellDue::SubscribeUnanswered(told) => told.origin,
+        FellDue::EventLost(told) => Origin {
+            numbers: told.numbers,
+            from: told.shown_by.sender,
+            to: told.shown_by.receiver,
+        },
     }
 }

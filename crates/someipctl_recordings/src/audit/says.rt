@@ -1,5 +1,5 @@
 //! What the line of a finding says.
-ghost use Rattle.std.specs.Prelude.{◌≡◌, ◌∷◌, codes, map};
+ghost use Rattle.std.specs.Prelude.{◌≡◌, ◌∷◌, [], ◌++◌, codes, map};
 ghost use Rattle.someipctl_io.specs.ToldLines.{field, number, text};
 ghost use Rattle.someipctl_io.specs.ToldViews.{view_field, view_head, view_said};
 ghost use Rattle.someipctl_recordings.specs.audit.AuditText.{PutsLine};
@@ -9,7 +9,7 @@ ghost use Rattle.someipctl_recordings.specs.audit.ToldFindings.{call_fields, due
 ghost use Rattle.someipctl_recordings.specs.audit.ToldFindings.{fields_of_call, fields_of_event, fields_of_offer};
 ghost use Rattle.someipctl_recordings.specs.audit.ToldFindings.{fields_of_receivers, fields_of_session, fields_of_subscription};
 ghost use Rattle.someipctl_recordings.specs.audit.ToldFindings.{finding_fields, full_fields, header_fields, instance_fields, malformed_fields};
-ghost use Rattle.someipctl_recordings.specs.audit.ToldFindings.{offer_fields, session_field, subscription_fields};
+ghost use Rattle.someipctl_recordings.specs.audit.ToldFindings.{last_field, offer_fields, session_field, subscription_fields};
 ghost use Rattle.someipctl_recordings.specs.declared.audit.kind.Kind.TheVariants as kinds;
 
 use crate::audit::kind::Kind;
@@ -18,6 +18,7 @@ use audit_sd::offers::OfferKey;
 use audit_sd::subscriptions::SubscriptionKey;
 use audit_traffic::calls::CallFinding;
 use audit_traffic::events::EventFlow;
+use audit_traffic::sequence;
 use someip_audit::{FellDue, Finding, ServiceInstance};
 use someip_wire::Header;
 use someipctl_io::{Buffer, CannotWrite, Field, Line, LineHead, Said, put_line};
@@ -120,6 +121,10 @@ pub(crate) fn put_fallen<W: Write>(
         FellDue::SubscribeUnanswered(told) => {
             let fields = subscription_fields(&told.key);
             put_said(buffer, writer, head, Kind::SubscribeUnanswered, &fields)
+        }
+        FellDue::EventLost(told) => {
+            let fields = event_session_fields(&told.shown_by, told.key.session);
+            put_said(buffer, writer, head, Kind::EventGap, &fields)
         }
     }
 }
@@ -301,28 +306,28 @@ fn put_event<W: Write>(
     head: &LineHead<'_>,
     flow: &EventFlow,
     session: u16,
-    shown: &audit_traffic::events::Finding,
+    shown: &sequence::Finding,
 ) -> Result<Kind, CannotWrite>
     ensures { PutsLine head.now.form (view_head head.now) (said_of_event flow.now session shown.now).kind
         (fields_of_event flow.now session shown.now) result
         (W.contents writer.old) buffer.old (W.contents writer.new) buffer.new }
 {
-    let [service, event] = event_fields(flow.service, flow.event);
     match shown {
-        audit_traffic::events::Finding::Repeated => {
-            let fields = [service, event, session_field(session)];
+        sequence::Finding::Repeated => {
+            let fields = event_session_fields(flow, session);
             put_said(buffer, writer, head, Kind::EventRepeated, &fields)
         }
-        audit_traffic::events::Finding::Gap { session, expected } => {
-            let fields = [
-                service,
-                event,
-                session_field(*session),
-                expected_field(*expected),
-            ];
+        sequence::Finding::Overtaken => {
+            let fields = event_session_fields(flow, session);
+            put_said(buffer, writer, head, Kind::EventOvertaken, &fields)
+        }
+        sequence::Finding::Lost { first, last } => {
+            let [service, event, session] = event_session_fields(flow, *first);
+            let fields = [service, event, session, last_field(*last)];
             put_said(buffer, writer, head, Kind::EventGap, &fields)
         }
-        audit_traffic::events::Finding::Full => put_full(buffer, writer, head, "events"),
+        sequence::Finding::EventsFull => put_full(buffer, writer, head, "events"),
+        sequence::Finding::GapsFull => put_full(buffer, writer, head, "gaps"),
     }
 }
 
@@ -450,11 +455,26 @@ fn event_fields(service: u16, event: u16) -> [Field<'static>; 2]
     ]
 }
 
-/// The session that came.
+/// An event of a flow, and a session.
+fn event_session_fields(flow: &EventFlow, session: u16) -> [Field<'static>; 3]
+    ensures { map view_field result ≡ event_fields flow.now.service flow.now.event ++ session_field session ∷ [] }
+{
+    let [service, event] = event_fields(flow.service, flow.event);
+    [service, event, session_field(session)]
+}
+
+/// A session.
 fn session_field(session: u16) -> Field<'static>
     ensures { view_field result ≡ session_field session }
 {
     field_of(" session ", "session", Said::Id(session))
+}
+
+/// The last of several sessions.
+fn last_field(last: u16) -> Field<'static>
+    ensures { view_field result ≡ last_field last }
+{
+    field_of(" to ", "last", Said::Id(last))
 }
 
 /// The session that was expected.

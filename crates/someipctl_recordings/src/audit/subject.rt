@@ -9,7 +9,7 @@ ghost use Rattle.someipctl_recordings.specs.audit.Subjects.{names_method, names_
 use crate::wanted::{Wanted, is_in_span};
 use audit_sd::{offers, receivers, sessions, subscriptions};
 use audit_traffic::calls::CallFinding;
-use audit_traffic::events;
+use audit_traffic::sequence;
 use recording::Time;
 use someip_audit::{FellDue, Finding};
 use someip_tables::hashed::Origin;
@@ -84,7 +84,7 @@ pub(crate) fn subject_of(finding: &Finding) -> Option<Subject>
         | Finding::Receiver(_, receivers::Finding::Full)
         | Finding::Call(_, CallFinding::Full)
         | Finding::Event(_, receivers::Finding::Full)
-        | Finding::EventSession(_, _, events::Finding::Full)
+        | Finding::EventSession(_, _, sequence::Finding::EventsFull | sequence::Finding::GapsFull)
         | Finding::EndpointsFull => None,
         Finding::Malformed(_)
         | Finding::MalformedSd(_)
@@ -120,6 +120,7 @@ pub(crate) fn subject_of_due(told: &FellDue) -> Subject
         }
         FellDue::Expired(told) => Subject::service(told.key.service),
         FellDue::SubscribeUnanswered(told) => Subject::service(told.key.service),
+        FellDue::EventLost(told) => Subject::event(told.shown_by.service, told.shown_by.event),
     }
 }
 

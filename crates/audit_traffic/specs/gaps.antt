@@ -1,0 +1,4 @@
+pub mod MissingKeys
+pub mod MissingOrder
+pub mod GapRules
+pub mod GapTables

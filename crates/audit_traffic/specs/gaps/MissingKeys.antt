@@ -1,0 +1,26 @@
+-- The order of the sessions of events, and their codes.
+use Rattle.std.specs.Prelude.{ℕ, refl}
+use Rattle.std.specs.declared.cmp.Ordering.{Ordering}
+use Rattle.std.specs.Ordering.{nat_cmp, ordering_then}
+use Rattle.std.specs.Coded.{Coded, code_by, coded×, coded_ℕ}
+use Rattle.std.specs.declared.net.socket_addr.SocketAddrV4.{SocketAddrV4}
+use Rattle.someip_tables.specs.Endpoints.{endpoint_cmp, coded_endpoint}
+use Rattle.audit_traffic.specs.declared.events.flow.EventFlow.{EventFlow}
+use Rattle.audit_traffic.specs.declared.gaps.key.MissingEvent.{MissingEvent}
+
+-- a session of the event of a flow, whoever receives it
+abbrev pub missing_of : EventFlow → ℕ → MissingEvent
+missing_of flow session = record { sender = flow.sender; service = flow.service; event = flow.event; session = session }
+
+-- by sender, service, event and session
+abbrev pub missing_cmp : MissingEvent → MissingEvent → Ordering
+missing_cmp a b =
+    ordering_then (endpoint_cmp a.sender b.sender)
+    (ordering_then (nat_cmp a.service b.service)
+    (ordering_then (nat_cmp a.event b.event) (nat_cmp a.session b.session)))
+
+-- it is stored as its parts
+abbrev pub coded_missing : Coded MissingEvent
+coded_missing =
+    code_by (SocketAddrV4 × (ℕ × (ℕ × ℕ))) (coded× coded_endpoint (coded× coded_ℕ (coded× coded_ℕ coded_ℕ)))
+    (λ m. (m.sender, (m.service, (m.event, m.session)))) (λ c. record { sender = c.0; service = c.1.0; event = c.1.1.0; session = c.1.1.1 }) (λ _. refl)

@@ -1,0 +1,2 @@
+pub mod CountedFlows
+pub mod Sequences
