@@ -50,7 +50,10 @@ fn wait_for_one(
 }
 
 /// The session that is lost first, if one is.
-pub(crate) fn first_lost(waiting: &DueTable<MissingEvent, Awaited>, now: Moment) -> Option<LostEvent>
+pub(crate) fn first_lost(
+    waiting: &DueTable<MissingEvent, Awaited>,
+    now: Moment,
+) -> Option<LostEvent>
     ensures { FallsDue now (map_of missing_cmp waiting.now) result }
 {
     let Some(due) = waiting.first_due() else {

@@ -7,12 +7,11 @@ ghost use Rattle.audit_traffic.specs.gaps.GapTables.{FallsDue};
 ghost use Rattle.audit_traffic.specs.sequence.Sequences.{IsLeft, after_change, after_due, after_event, after_withdrawal};
 ghost use Rattle.audit_traffic.specs.sequence.Sequences.{gap_of, new_sequence, of_gap, told_behind, told_by, without};
 
-use crate::events;
 use crate::events::{EventBook, Notification};
-use crate::gaps;
 use crate::gaps::{Gap, GapBook, LostEvent, MissingEvent};
 use crate::sequence::counting::Counting;
 use crate::sequence::finding::Finding;
+use crate::{events, gaps};
 use someip_tables::Moment;
 use someip_tables::hashed::Numbers;
 use std::alloc::{AllocError, Global};
