@@ -76,12 +76,12 @@ STORY = [
     answer(5650, 3),
     event(6000, 2),
     event(6001, 2),
-    event(6500, 5),
+    event(6500, 4),
     discovery(8000, A, GROUP, 2, entry(OFFER, 12, endpoint=f"{A}:30509")),
     discovery(8010, C, A, 1, entry(SUBSCRIBE, 12, 2, f"{C}:40002")),
     discovery(8012, A, C, 1, entry(ACK, 0, 2)),
     discovery(9000, B, A, 3, entry(SUBSCRIBE, 12, 1, f"{B}:40001")),
-    event(11500, 6, f"{C}:40002"),
+    event(11500, 5, f"{C}:40002"),
     segment(12000, 1, b"\5"),
     segment(12100, 1, b"\6"),
     segment(13000, 2, b"\5"),
@@ -95,6 +95,8 @@ STORY = [
     unknown_method(30520, 1, 0x0423),
     discovery(31000, C, GROUP, 2, entry(OFFER, 3)),
     discovery(31500, C, GROUP, 3, entry(OFFER, 3, has_bad_run=True)),
+    event(31800, 3),
+    event(31850, 2),
 ]
 
 if __name__ == "__main__":

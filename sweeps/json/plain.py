@@ -80,6 +80,12 @@ def subscription(line):
     return f"{offer(line)} group {line['group']} counter {line['counter']}"
 
 
+
+def event_session(line):
+    last = f" to {line['last']}" if "last" in line else ""
+    return f"{ids(line, 'event')} session {line['session']}{last}"
+
+
 FOUND = {
     "malformed": lambda line: f"{line['name']} at {line['at']}",
     **dict.fromkeys(("bad-run", "no-endpoint"), lambda line: ids(line, "instance")),
@@ -88,8 +94,7 @@ FOUND = {
     "late": lambda line: f"{line['ms']} ms {call(line)}",
     "error": lambda line: f"{line['code']} {call(line)}",
     **dict.fromkeys(("unanswered", "unasked", "repeated", "key-reused", "segments-missing"), call),
-    "event-repeated": lambda line: f"{ids(line, 'event')} session {line['session']}",
-    "event-gap": lambda line: f"{ids(line, 'event')} session {line['session']} expected {line['expected']}",
+    **dict.fromkeys(("event-repeated", "event-overtaken", "event-gap"), event_session),
     "event-unsubscribed": lambda line: ids(line, "event"),
     "segments": lambda line: f"{line['name']} {call(line)}",
     **dict.fromkeys(("offer-expired", "offer-moved"), offer),

@@ -2,3 +2,4 @@ pub mod about_calls
 pub mod about_events
 pub mod about_gaps
 pub mod about_segments
+pub mod about_sequence

@@ -1,2 +1,4 @@
 pub mod CountedFlows
 pub mod Sequences
+pub mod SequenceHistories
+pub mod SequenceExamples

@@ -95,7 +95,7 @@ full_stays (Withdrawn server service) book is = is
 full_stays (BeganAgain address) book is = is
 
 -- a book that is not full after something was shown was not full before
-not_before : (shown : Shown) (book : Events) → (book_after shown book).told_full ≡ false → book.told_full ≡ false
+pub not_before : (shown : Shown) (book : Events) → (book_after shown book).told_full ≡ false → book.told_full ≡ false
 not_before shown book fits = cases book.told_full refl
   where
     cases : (b : Bool) → book.told_full ≡ b → b ≡ false
