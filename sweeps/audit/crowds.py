@@ -68,6 +68,13 @@ def events():
     return offered() + of_messages(SERVER, CLIENT, headers)
 
 
+def gaps():
+    """Events that skip 64 sessions each, all at one moment."""
+    headers = [wire.Header(1, number, 0, session, 1, wire.NOTIFICATION, 0)
+               for number in range(LIMIT // 64 + 2) for session in (1, 66)]
+    return offered() + of_messages(SERVER, CLIENT, headers)
+
+
 def sessions():
     return [discovery((A[0] + number, A[1]), GROUP, 1, []) for number in range(LIMIT + 2)]
 
@@ -110,7 +117,7 @@ CROWDS = {"calls": ("calls", calls, 1 + FULL), "answered calls": ("calls", answe
           "sessions": ("sessions", sessions, LIMIT + 1), "offers": ("offers", offers, FULL),
           "subscriptions": ("subscriptions", subscriptions, 2 * LIMIT // 4000 + 1),
           "receivers": ("receivers", receivers, 2 * FULL - 1),
-          "events": ("events", events, 1 + FULL), "endpoints": ("endpoints", endpoints, 2 * LIMIT // 400 + 1)}
+          "events": ("events", events, 1 + FULL), "gaps": ("gaps", gaps, 2), "endpoints": ("endpoints", endpoints, 2 * LIMIT // 400 + 1)}
 
 
 def told(table, records, number):

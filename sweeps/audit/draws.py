@@ -56,7 +56,7 @@ class Draws:
     def next_session(self, key, first):
         """The next session of what this key counts; or now and then another one."""
         last = self.sessions.get(key, self.some.choice(first))
-        jump = self.some.choice((0, 0, 2, 3, -1, -2, -last)) if self.chance(0.5 if self.loose else 0.1) else 1
+        jump = self.some.choice((0, 0, 2, 3, 5, 65, 66, -1, -2, -3, -last)) if self.chance(0.5 if self.loose else 0.1) else 1
         session = (last + jump) % 0x10000
         session = 1 if last == 0xFFFF and jump == 1 else session
         self.sessions[key] = session or last
@@ -208,6 +208,10 @@ class Draws:
             words += ["--answer-ms", self.one("1", "500", "1000", "3000")]
         if self.chance(0.4):
             words += ["--settle-ms", self.one("1", "250", "500", "1000", "3000")]
+        if self.chance(0.3):
+            words += ["--overtake-ms", self.one("0", "1", "10", "1000", "60000")]
+        if self.chance(0.2):
+            words += ["--sessions", self.one("sender", "sender", "event")]
         return words
 
 

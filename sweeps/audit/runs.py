@@ -215,6 +215,29 @@ class Run:
         return [world.records for world in self.worlds]
 
 
+def mirrored(some, records):
+    """The datagrams of a recording as a port that mirrors both directions records them: each comes again, up to 4 ms
+    later."""
+    again = [record._replace(time=record.time + some.randrange(4 * 10**6)) for record in records]
+    return sorted(records + again, key=lambda record: record.time)
+
+
+def counted_together(records):
+    """The datagrams of a recording with the sessions of events as senders give them that count all events together."""
+    given, last, found = {}, {}, []
+    for record in records:
+        texts = []
+        for _, header, payload in wire.messages_of(record.payload)[0]:
+            if header.kind & ~wire.TP == wire.NOTIFICATION and header.service != 0xFFFF:
+                event = record.source, header.service, header.method, header.session
+                if event not in given:
+                    given[event] = last[record.source] = last.get(record.source, 0) % 0xFFFF + 1
+                header = header._replace(session=given[event])
+            texts.append(wire.message(header, payload))
+        found.append(record._replace(payload=b"".join(texts)))
+    return found
+
+
 def disturbed(some, records):
     """The datagrams of a recording with some of them lost, repeated, swapped or late."""
     found = list(records)

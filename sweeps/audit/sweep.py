@@ -13,13 +13,14 @@ Recordings: what they are; what is expected
   1000 `calm`: of nodes: drawn setups of two or three nodes, with a TTL of offers above twice the cyclic delay, and
     drawn calls, events, Subscribes, StopSubscribes and StopOffers, some with payloads that go in segments. All clocks
     are ticked together, each datagram is delivered at once, and each request is answered in time, by a RESPONSE with
-    code 00; no finding
+    code 00. Each is tried three times: as it is, as a port that mirrors both directions records it, with `--dedup 5`,
+    and with the sessions of each sender's events counted together, with `--sessions sender`; no finding
   1000 `rough`: of nodes too, which also begin anew, ask for eventgroups that there are not, offer for a second, and
     answer late or never. Then datagrams of the recording are lost, repeated, swapped or late; what the model tells
   1000 `drawn`: of drawn datagrams, which need make no sense: messages of Service Discovery, calls, events, segments,
     with bytes that are cut or changed, over few addresses and IDs, so that keys meet; with times that go back, stand
     still or are not there, with packets that are no datagrams, and with drawn options; what the model tells
-  9 `crowds`: a table of an audit comes to its limit of 65,536 keys, one for each table; and calls that were answered
+  10 `crowds`: a table of an audit comes to its limit of 65,536 keys, one for each table; and calls that were answered
     fill theirs, in one that goes on while they are known, and in one that goes on when they no longer are; `full
     NAME` at the first thing that finds no room, and nothing else
   the example: `examples/audit.pcap`, as `sweeps/audit/story.py` writes it; `examples/audit.txt`
@@ -114,10 +115,15 @@ class Sweep:
             self.calm_types.update(header.kind for header in messages)
             expected = f"audited {len(records)} datagrams, {len(messages)} messages, 0 findings\n"
             self.judge("calm", number, wire.pcap(records, nanoseconds=True), words, expected)
+            twice = wire.pcap(runs.mirrored(some, records), nanoseconds=True)
+            self.judge("mirrored", number, twice, words + ["--dedup", "5"], expected)
+            together = wire.pcap(runs.counted_together(records), nanoseconds=True)
+            self.judge("counted together", number, together, words + ["--sessions", "sender"], expected)
 
     def rough(self, count):
         for number, some, records in self.worlds("rough", count):
             words = some.choice(([], ["--settle-ms", "1"], ["--settle-ms", "1", "--answer-ms", "500"]))
+            words = words + some.choice(([], ["--overtake-ms", "0"], ["--overtake-ms", "1000"]))
             data = wire.pcap(runs.disturbed(some, records), nanoseconds=True)
             self.judge("rough", number, data, words, model.audited(data, model.rules_of(words)[0]))
 

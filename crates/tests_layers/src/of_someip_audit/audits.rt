@@ -2,6 +2,8 @@
 use crate::of_audit_sd::places::{at, endpoint, numbered};
 use audit_traffic::calls::CallFinding;
 use audit_traffic::segments::SegmentRules;
+use audit_traffic::sequence;
+use audit_traffic::sequence::Counting;
 use sd_wire::SdError;
 use someip_audit::{Audit, AuditRules, FellDue, Finding, ServiceInstance, WatchRules};
 use someip_reassembly::SegmentList;
@@ -28,7 +30,8 @@ enum Told {
     Late,
     Unsubscribed,
     Repeated,
-    /// Session 4, and 2 was expected.
+    Overtaken,
+    /// Session 2.
     Gap,
     /// At byte 16.
     NoTpHeader,
@@ -47,7 +50,7 @@ enum Told {
 
 use Told::{
     BadRun, EndpointsFull, EntriesLength, Expired, Gap, Late, Missing, Nack, NoEndpoint,
-    NoTpHeader, OfferFull, Other, Reboot, Repeated, SubscribeUnanswered, Truncated, Unanswered,
+    NoTpHeader, OfferFull, Other, Overtaken, Reboot, Repeated, SubscribeUnanswered, Truncated, Unanswered,
     UnknownMethod, Unsubscribed,
 };
 
@@ -82,6 +85,8 @@ const NACK: &str =
     "ffff8100000000240000000201010200c0000000000000100700000010000001010000000000000500000000";
 /// Event 8001 of service 1000, session 1.
 const EVENT_1: &str = "100080010000000900000001010102002a";
+/// Session 3.
+const EVENT_3: &str = "100080010000000900000003010102002a";
 /// Session 4.
 const EVENT_4: &str = "100080010000000900000004010102002a";
 /// Session 5.
@@ -131,13 +136,14 @@ const STORY: &[Row] = &[
     Row(350, (9, 30490), (1, 30490), ACK, &[], Some(1)),
     Row(400, (9, 30509), (1, 40000), EVENT_1, &[], Some(1)),
     Row(410, (9, 30509), (1, 40000), EVENT_1, &[Repeated], Some(1)),
-    Row(420, (9, 30509), (1, 40000), EVENT_4, &[Gap], Some(1)),
+    Row(420, (9, 30509), (1, 40000), EVENT_4, &[], Some(1)),
+    Row(439, (9, 30509), (1, 40000), EVENT_3, &[Overtaken], Some(1)),
     Row(
         500,
         (9, 30509),
         (1, 40001),
         EVENT_5,
-        &[Unsubscribed],
+        &[Gap, Unsubscribed],
         Some(1),
     ),
     Row(1400, (2, 50000), (3, 50001), EVENT_1, &[], None),
@@ -277,6 +283,8 @@ fn told_of_due(fell: &FellDue) -> Told {
         FellDue::Missing(_) => Missing,
         FellDue::Expired(_) => Expired,
         FellDue::SubscribeUnanswered(_) => SubscribeUnanswered,
+        FellDue::EventLost(lost) if lost.key.session == 2 => Gap,
+        FellDue::EventLost(_) => Other,
     }
 }
 
@@ -313,13 +321,10 @@ fn if_instance_1(about: &ServiceInstance, told: Told) -> Told {
     }
 }
 
-fn told_of_event(shown: &audit_traffic::events::Finding) -> Told {
+fn told_of_event(shown: &sequence::Finding) -> Told {
     match shown {
-        audit_traffic::events::Finding::Repeated => Repeated,
-        audit_traffic::events::Finding::Gap {
-            session: 4,
-            expected: 2,
-        } => Gap,
+        sequence::Finding::Repeated => Repeated,
+        sequence::Finding::Overtaken => Overtaken,
         _ => Other,
     }
 }
@@ -387,6 +392,8 @@ fn rules(limit: usize) -> AuditRules {
     AuditRules {
         limit,
         answer_ms: 1000,
+        overtake_ms: 20,
+        counting: Counting::ByEvent,
         settle_ms: 50,
         segments: SegmentRules {
             slots: 4,
