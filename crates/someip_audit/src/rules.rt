@@ -8,6 +8,8 @@ pub struct AuditRules {
     pub limit: usize,
     /// How many milliseconds an answer may take: that to a REQUEST, and that to a Subscribe.
     pub answer_ms: u32,
+    /// How many milliseconds after a message one may come that it overtook: from 0 to 60000.
+    pub overtake_ms: u32,
     /// For how many milliseconds from the beginning of the recording no event is told that has no
     /// subscription: its Subscribe may be before the recording.
     pub settle_ms: u32,
