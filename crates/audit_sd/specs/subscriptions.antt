@@ -1,5 +1,6 @@
 pub mod SubscriptionKeys
 pub mod SubscriptionOrder
+pub mod OwedAnswers
 pub mod SubscribeRules
 pub mod SubscribeTables
 pub mod SubscribeHistories

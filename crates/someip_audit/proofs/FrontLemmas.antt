@@ -36,7 +36,7 @@ use Rattle.audit_sd.specs.declared.subscriptions.entry.SubscribeEntry.{Subscribe
 use Rattle.audit_sd.specs.declared.receivers.entry.ReceiverEntry.{ReceiverEntry}
 use Rattle.someip_audit.specs.declared.finding.Finding.{Finding}
 use Rattle.someip_audit.specs.SdEntries.{named_endpoint, offer_entry, receiver_entry, sd_message, subscribe_entry, withdrawn_offer}
-use Rattle.someip_audit.specs.SdShown.{IsBegun, IsFront, Work, changed, endpoint_shown, entries_shown, entry_shown, good_shown, group_shown, head_shown, offer_shown, options_shown, receiver_shown, sd_shown, service_shown, session_shown, subscribe_shown, taken_shown, told_of_options, with_told, withdrawn, working}
+use Rattle.someip_audit.specs.SdShown.{IsBegun, IsFront, Work, changed, endpoint_shown, entries_shown, entry_shown, good_shown, group_shown, group_taken, head_shown, offer_shown, options_shown, receiver_shown, sd_shown, service_shown, session_shown, subscribe_shown, taken_shown, told_of_options, told_unasked, unasked_shown, with_told, withdrawn, working}
 
 nothing_more : (xs : List Finding) → xs ++ [] ≡ xs
 nothing_more [] = refl
@@ -75,10 +75,15 @@ subscribe_front now entry work = front_told _ work.told
 pub receiver_front : (now : ℕ) (entry : ReceiverEntry) (work : Work) → IsFront work.told (receiver_shown now entry work).told
 receiver_front now entry work = front_told _ work.told
 
-pub group_front : (now : ℕ) (entry : SubscribeEntry) (endpoint : Option SocketAddrV4) (work : Work) → IsFront work.told (group_shown now entry endpoint work).told
-group_front now entry endpoint work =
+pub group_taken_front : (now : ℕ) (entry : SubscribeEntry) (endpoint : Option SocketAddrV4) (work : Work) → IsFront work.told (group_taken now entry endpoint work).told
+group_taken_front now entry endpoint work =
     let begun : Work = changed entry.key work in
     front_further work.told (subscribe_shown now entry begun).told _ (subscribe_front now entry begun) (receiver_front now (receiver_entry entry endpoint) (subscribe_shown now entry begun))
+
+pub group_front : (now : ℕ) (entry : SubscribeEntry) (endpoint : Option SocketAddrV4) (work : Work) → IsFront work.told (group_shown now entry endpoint work).told
+group_front now entry endpoint work =
+    let noted : Work = unasked_shown now entry work in
+    front_further work.told noted.told _ (front_told (told_unasked now entry work.held) work.told) (group_taken_front now entry endpoint noted)
 
 pub head_front : (now : ℕ) (origin : Origin) (head : EntryHead) (endpoint : Option SocketAddrV4) (work : Work) → IsFront work.told (head_shown now origin head endpoint work).told
 head_front now origin (Service entry) endpoint work = service_front entry.kind now origin entry endpoint work
@@ -141,13 +146,22 @@ pub front_moved : (before told : List Finding) (held : Held) (work : Work) → w
 front_moved before told held work is front = rw (ap (λ (w : Work). w.told) is) front
 
 -- a subscription changed, its entry was shown as to its answer, and nothing more
-pub group_begun : (now : ℕ) (entry : SubscribeEntry) (endpoint : Option SocketAddrV4) (held started mid : Held) (told more new : List Finding)
+pub group_taken_begun : (now : ℕ) (entry : SubscribeEntry) (endpoint : Option SocketAddrV4) (held started mid : Held) (told more new : List Finding)
     → started ≡ (changed entry.key (working held [])).held → working mid more ≡ subscribe_shown now entry (working started told) → new ≡ more
-    → IsBegun told new (group_shown now entry endpoint (working held told)).told
-group_begun now entry endpoint held started mid told more new starts is same =
+    → IsBegun told new (group_taken now entry endpoint (working held told)).told
+group_taken_begun now entry endpoint held started mid told more new starts is same =
     let begun : Work = changed entry.key (working held told) in
     let at : more ≡ (subscribe_shown now entry begun).told = ap (λ (w : Work). w.told) (is ∙ ap (λ h. subscribe_shown now entry (working h told)) starts) in
     rw (same, at) (subscribe_front now entry begun, receiver_front now (receiver_entry entry endpoint) (subscribe_shown now entry begun))
+
+-- that nobody asked for an entry was told, or nothing, and then some of the entry was shown
+pub group_begun : (now : ℕ) (entry : SubscribeEntry) (endpoint : Option SocketAddrV4) (shown : Option Finding) (held : Held) (told more new : List Finding)
+    → shown ≡ told_unasked now entry held → more ≡ with_told shown told
+    → IsBegun more new (group_taken now entry endpoint (working held more)).told
+    → IsBegun told new (group_shown now entry endpoint (working held told)).told
+group_begun now entry endpoint shown held told more new shows is begun =
+    let at : more ≡ with_told (told_unasked now entry held) told = is ∙ ap (λ finding. with_told finding told) shows in
+    begun_later told (with_told (told_unasked now entry held) told) new _ (front_told (told_unasked now entry held) told) (rw at at begun)
 
 -- what the options of an entry show was told, and then some of the entry was shown
 pub entry_begun : (now : ℕ) (origin : Origin) (entry : ReadValue) (shown : Option Finding) (held : Held) (told more new : List Finding)
@@ -172,8 +186,8 @@ session_front message work = front_told _ work.told
 
 pub sd_front : (now : ℕ) (origin : Origin) (session : ℕ) (sd : SdValue) (work : Work) → IsFront work.told (sd_shown now origin session sd work).told
 sd_front now origin session sd work =
-    front_further work.told (session_shown (sd_message origin session sd.flags) work).told _ (session_front (sd_message origin session sd.flags) work)
-    (entries_front now origin sd.entries (session_shown (sd_message origin session sd.flags) work))
+    front_further work.told (session_shown (sd_message now origin session sd.flags) work).told _ (session_front (sd_message now origin session sd.flags) work)
+    (entries_front now origin sd.entries (session_shown (sd_message now origin session sd.flags) work))
 
 pub sd_begun : (now : ℕ) (origin : Origin) (some all : List ReadEntry) (seen message : SdMessage) (held : Held) (told : List Finding) (mid : Held) (more new : List Finding)
     → some ≡ all → seen ≡ message → working mid more ≡ session_shown seen (working held told)

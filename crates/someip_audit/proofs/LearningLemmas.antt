@@ -109,6 +109,7 @@ after_same : (told : Option SessionFinding) (message : SdMessage) (held : Held) 
 after_same None message held = refl
 after_same (Some sessions.Reboot) message held = refl
 after_same (Some (sessions.NotNext stamp expected)) message held = refl
+after_same (Some (sessions.Overtaken stamp)) message held = refl
 after_same (Some sessions.Full) message held = refl
 
 session_same : (message : SdMessage) (work : Work) → learnt (session_shown message work) ≡ learnt work
@@ -118,7 +119,7 @@ session_same message work =
 payload_learnt : (now : ℕ) (origin : Origin) (place session : ℕ) (read : Result SdValue SdError) (work : Work)
     → learnt (payload_shown now origin place session read work) ≡ learnt_of_payload read (learnt work)
 payload_learnt now origin place session (Ok sd) work =
-    entries_learnt now origin sd.entries (session_shown (sd_message origin session sd.flags) work) ∙ ap (learnt_of sd.entries) (session_same (sd_message origin session sd.flags) work)
+    entries_learnt now origin sd.entries (session_shown (sd_message now origin session sd.flags) work) ∙ ap (learnt_of sd.entries) (session_same (sd_message now origin session sd.flags) work)
 payload_learnt now origin place session (Err fault) work = refl
 
 -- ---- a datagram

@@ -6,8 +6,8 @@ use Rattle.audit_traffic.specs.calls.CallBooks as calls
 use Rattle.audit_traffic.specs.calls.CallCodes as codes
 use Rattle.audit_traffic.specs.segments.SegmentBooks as segments
 use Rattle.audit_sd.specs.offers.OfferTables.{OfferTable, coded_offers}
-use Rattle.audit_sd.specs.subscriptions.SubscribeTables.{SubscribeTable, coded_subscribes}
-use Rattle.audit_sd.specs.sessions.SessionBooks.{Sessions, coded_sessions}
+use Rattle.audit_sd.specs.subscriptions.SubscribeTables.{SubscribeTable, coded_subscribes, no_subscribes}
+use Rattle.audit_sd.specs.sessions.SessionBooks.{Sessions, coded_sessions, no_sessions}
 use Rattle.audit_sd.specs.receivers.ReceiverTables.{Receivers, coded_receivers}
 use Rattle.audit_traffic.specs.sequence.Sequences.{Sequence, coded_sequence, new_sequence}
 use Rattle.someip_audit.specs.declared.rules.AuditRules.{AuditRules}
@@ -35,8 +35,8 @@ empty_held rules ports learns now = record {
   calls = calls.new_book (record { limit = rules.limit; answer_ms = rules.answer_ms; begins = now });
   segments = segments.empty_book (record { slots = rules.segments.slots; limit = rules.segments.limit; timeout = rules.segments.timeout_ms }) 0;
   offers = record { limit = rules.limit; standing = finite.empty; told_full = false };
-  subscriptions = record { limit = rules.limit; answer_ms = rules.answer_ms; waiting = finite.empty; told_full = false };
-  sessions = record { limit = rules.limit; last = finite.empty; told_full = false };
+  subscriptions = no_subscribes rules.limit rules.answer_ms (moment_after now rules.answer_ms);
+  sessions = no_sessions rules.limit rules.overtake_ms;
   receivers = record { limit = rules.limit; settled = moment_after now rules.settle_ms; standing = finite.empty; told = finite.empty; told_full = false };
   events = new_sequence (record { limit = rules.limit; overtake_ms = rules.overtake_ms; counting = rules.counting });
   watched = watch_begun ports learns rules.limit;

@@ -31,9 +31,9 @@ sender origin = v4_ip origin.from
 abbrev pub destination : Origin → Ipv4Addr
 destination origin = v4_ip origin.to
 
--- a message with this session and these flags, as far as its sessions go
-abbrev pub sd_message : Origin → ℕ → SdFlags → SdMessage
-sd_message origin session flags = record { from = sender origin; to = destination origin; stamp = record { session = session; reboot = flags.reboot } }
+-- a message with this session and these flags, which comes at a moment, as far as its sessions go
+abbrev pub sd_message : ℕ → Origin → ℕ → SdFlags → SdMessage
+sd_message now origin session flags = record { at = now; from = sender origin; to = destination origin; stamp = record { session = session; reboot = flags.reboot } }
 
 -- the instance that an entry is about
 abbrev pub offer_key : ServiceEntry → OfferKey

@@ -107,9 +107,21 @@ receiver_shown now entry work = record {
 abbrev pub changed : SubscriptionKey → Work → Work
 changed key work = record work { held = record work.held { events = events.after_change key.client key.server work.held.events } }
 
--- an entry of an eventgroup: its subscription changes, and it shows what is told as to its answer, and then as to who is subscribed
+-- the books take an entry of an eventgroup: its subscription changes, and it shows what is told as to its answer, and then as to who
+-- is subscribed
+abbrev pub group_taken : ℕ → SubscribeEntry → Option SocketAddrV4 → Work → Work
+group_taken now entry endpoint work = receiver_shown now (receiver_entry entry endpoint) (subscribe_shown now entry (changed entry.key work))
+
+-- an answer that nobody asked for is told as that
+abbrev pub told_unasked : ℕ → SubscribeEntry → Held → Option Finding
+told_unasked now entry held = option_map (findings.Subscription entry.key) (subscriptions.unasked_by now entry held.subscriptions)
+
+abbrev pub unasked_shown : ℕ → SubscribeEntry → Work → Work
+unasked_shown now entry work = record work { told = with_told (told_unasked now entry work.held) work.told }
+
+-- an entry of an eventgroup comes: that nobody asked for it is told first
 abbrev pub group_shown : ℕ → SubscribeEntry → Option SocketAddrV4 → Work → Work
-group_shown now entry endpoint work = receiver_shown now (receiver_entry entry endpoint) (subscribe_shown now entry (changed entry.key work))
+group_shown now entry endpoint work = group_taken now entry endpoint (unasked_shown now entry work)
 
 -- an entry with the first IPv4 endpoint over UDP among its options, if it has one
 abbrev pub head_shown : ℕ → Origin → EntryHead → Option SocketAddrV4 → Work → Work
@@ -154,7 +166,7 @@ entries_shown now origin (entry ∷ entries) work = entries_shown now origin ent
 
 -- its sessions, and then its entries
 abbrev pub sd_shown : ℕ → Origin → ℕ → SdValue → Work → Work
-sd_shown now origin session sd work = entries_shown now origin sd.entries (session_shown (sd_message origin session sd.flags) work)
+sd_shown now origin session sd work = entries_shown now origin sd.entries (session_shown (sd_message now origin session sd.flags) work)
 
 -- ---- what was told where memory ran out
 

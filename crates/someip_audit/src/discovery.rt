@@ -2,9 +2,9 @@
 ghost use Rattle.std.specs.Prelude.{◌≡◌, OnErr, OnOk, Some, [], map};
 ghost use Rattle.sd_wire.specs.contents.Values.{view_read, view_sd};
 ghost use Rattle.someip_audit.specs.SdShown.{IsBegun, begun_again, changed, endpoint_shown, entries_shown, entry_shown};
-ghost use Rattle.someip_audit.specs.SdShown.{good_shown, group_shown, head_shown, offer_shown, receiver_shown, sd_shown};
+ghost use Rattle.someip_audit.specs.SdShown.{good_shown, group_shown, group_taken, head_shown, offer_shown, receiver_shown, sd_shown};
 ghost use Rattle.someip_audit.specs.SdShown.{service_shown, session_shown, subscribe_shown, taken_shown};
-ghost use Rattle.someip_audit.specs.SdShown.{told_of_options, with_told, working};
+ghost use Rattle.someip_audit.specs.SdShown.{told_of_options, told_unasked, with_told, working};
 
 use crate::books::Books;
 use crate::entries::{
@@ -40,7 +40,7 @@ impl<S: Reassembly> Books<S> {
         ensures err { OnErr result (IsBegun findings.old.items findings.new.items
             (sd_shown now origin.now session (view_sd read.now) (working self.old findings.old.items)).told) }
     {
-        self.saw_session(sd_message(origin, session, read.flags), findings)?;
+        self.saw_session(sd_message(now, origin, session, read.flags), findings)?;
         self.saw_entries(now, origin, &read.entries, findings)
     }
 
@@ -54,9 +54,10 @@ impl<S: Reassembly> Books<S> {
             ≡ session_shown message (working self.old findings.old.items)) }
         ensures err { OnErr result (findings.new.items ≡ findings.old.items) }
     {
+        let sender = message.from;
         let told = self.sessions.saw(message)?;
         if let Some(audit_sd::sessions::Finding::Reboot) = told {
-            self.begin_again(message.from);
+            self.begin_again(sender);
         }
         match told {
             Some(shown) => tell(findings, Finding::Session(shown)),
@@ -190,7 +191,7 @@ impl<S: Reassembly> Books<S> {
         }
     }
 
-    /// An entry of an eventgroup comes.
+    /// An entry of an eventgroup comes: that nobody asked for it is told first.
     fn saw_group(
         &mut self,
         now: Moment,
@@ -202,6 +203,33 @@ impl<S: Reassembly> Books<S> {
             ≡ group_shown now entry endpoint (working self.old findings.old.items)) }
         ensures err { OnErr result (IsBegun findings.old.items findings.new.items
             (group_shown now entry endpoint (working self.old findings.old.items)).told) }
+    {
+        tell_if_any(findings, self.told_unasked(now, &entry))?;
+        self.take_group(now, entry, endpoint, findings)
+    }
+
+    /// What an entry of an eventgroup is told as that nobody asked for.
+    fn told_unasked(&self, now: Moment, entry: &SubscribeEntry) -> Option<Finding>
+        ensures { result ≡ told_unasked now entry.now self.now }
+    {
+        match self.subscriptions.unasked(now, entry) {
+            Some(shown) => Some(Finding::Subscription(entry.key, shown)),
+            None => None,
+        }
+    }
+
+    /// The books take an entry of an eventgroup.
+    fn take_group(
+        &mut self,
+        now: Moment,
+        entry: SubscribeEntry,
+        endpoint: Option<SocketAddrV4>,
+        findings: &mut Vec<Finding>,
+    ) -> Result<(), AllocError>
+        ensures ok { OnOk result (working self.new findings.new.items
+            ≡ group_taken now entry endpoint (working self.old findings.old.items)) }
+        ensures err { OnErr result (IsBegun findings.old.items findings.new.items
+            (group_taken now entry endpoint (working self.old findings.old.items)).told) }
     {
         self.change(entry.key);
         self.saw_subscribe(now, entry, findings)?;

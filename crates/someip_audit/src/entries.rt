@@ -10,14 +10,16 @@ use audit_sd::sessions::SdMessage;
 use audit_sd::subscriptions::{EntryKind, SubscribeEntry, SubscriptionKey};
 use sd_session::Stamp;
 use sd_wire::{EntryHead, EventgroupEntry, EventgroupKind, SdFlags, ServiceEntry, ServiceKind};
+use someip_tables::Moment;
 use someip_tables::hashed::Origin;
 use std::net::SocketAddrV4;
 
 /// A message of Service Discovery, as far as its sessions go.
-pub(crate) fn sd_message(origin: &Origin, session: u16, flags: SdFlags) -> SdMessage
-    ensures { result ≡ sd_message origin.now session flags }
+pub(crate) fn sd_message(now: Moment, origin: &Origin, session: u16, flags: SdFlags) -> SdMessage
+    ensures { result ≡ sd_message now origin.now session flags }
 {
     SdMessage {
+        at: now,
         from: *origin.from.ip(),
         to: *origin.to.ip(),
         stamp: Stamp {

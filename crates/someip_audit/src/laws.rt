@@ -1,8 +1,12 @@
 //! Laws of the definitions behind the contracts, by example. Each is the contract of a function that does
 //! nothing.
-ghost use Rattle.std.specs.Prelude.{◌≡◌, ℕ, List, [], ◌∷◌, Some, None, Ok, Err, true, false, if◌then◌else◌, nat_lt, option_map};
+ghost use Rattle.std.specs.Prelude.{◌≡◌, ℕ, List, [], ◌∷◌, Option, Some, None, Ok, Err, true, false, if◌then◌else◌, nat_lt, option_map};
+ghost use Rattle.std.specs.declared.net.socket_addr.SocketAddrV4.{SocketAddrV4};
 ghost use Rattle.std.specs.List.{list_any};
+ghost use Rattle.audit_sd.specs.declared.subscriptions.entry.SubscribeEntry.{SubscribeEntry};
+ghost use Rattle.audit_sd.specs.declared.subscriptions.finding.Finding.{Finding as SubscribeFinding};
 ghost use Rattle.audit_sd.specs.declared.subscriptions.key.SubscriptionKey.{SubscriptionKey};
+ghost use Rattle.audit_sd.specs.subscriptions.SubscribeTables.{unasked_by};
 ghost use Rattle.audit_traffic.specs.declared.events.flow.EventFlow.{EventFlow};
 ghost use Rattle.audit_traffic.specs.events.EventRules.{disturbed, is_between};
 ghost use Rattle.audit_traffic.specs.sequence.Sequences.{Sequence};
@@ -32,7 +36,8 @@ ghost use Rattle.someip_audit.specs.MessageShown.{event_flow, event_shown, flow_
 ghost use Rattle.someip_audit.specs.SdEntries.{names_endpoint, offer_entry, subscribe_entry, withdrawn_offer};
 ghost use Rattle.someip_audit.specs.SdScenes.{call_due, group_entry, offer_due, sd_header, service_entry};
 ghost use Rattle.someip_audit.specs.SdScenes.{coded, group_without, instance_1, subscribe_due, with_endpoint, without_endpoint};
-ghost use Rattle.someip_audit.specs.SdShown.{Work, after_session, begun_again, endpoint_shown, entry_shown, head_shown, offer_shown};
+ghost use Rattle.someip_audit.specs.SdShown.{Work, after_session, begun_again, endpoint_shown, entry_shown, group_shown, group_taken};
+ghost use Rattle.someip_audit.specs.SdShown.{head_shown, offer_shown};
 ghost use Rattle.someip_audit.specs.SdShown.{told_of_options, withdrawn};
 
 /// In which order what fell due is told, by example: by deadline; at one deadline calls, then offers, then
@@ -93,6 +98,15 @@ pub fn bad_runs_are_told_first()
     ensures { (work : Work) → entry_shown 100 (from_node 1 1) (bad_run (Service (service_entry Offer 3))) work
         ≡ head_shown 100 (from_node 1 1) (Service (service_entry Offer 3)) None
         (once_told (findings.BadRun instance_1) work) }
+{}
+
+/// What an answer shows that nobody asked for, whatever the books hold: that first, and then what it shows
+/// else.
+pub fn unasked_answers_are_told_first()
+    ensures { (now : ℕ) (entry : SubscribeEntry) (endpoint : Option SocketAddrV4) (shown : SubscribeFinding)
+        (work : Work) → unasked_by now entry work.held.subscriptions ≡ Some shown
+        → group_shown now entry endpoint work
+        ≡ group_taken now entry endpoint (once_told (findings.Subscription entry.key shown) work) }
 {}
 
 /// What a message shows by its return code, by example: an ERROR and a RESPONSE with another code than 00 an

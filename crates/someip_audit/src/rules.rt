@@ -9,7 +9,7 @@ pub struct AuditRules {
     pub limit: usize,
     /// How many milliseconds an answer may take: that to a REQUEST, and that to a Subscribe.
     pub answer_ms: u32,
-    /// How many milliseconds after a later one a message may come that was overtaken.
+    /// How many milliseconds after a message one may come that it overtook: from 0 to 60000.
     pub overtake_ms: u32,
     /// Which events a sender counts together.
     pub counting: Counting,

@@ -1,17 +1,22 @@
--- Why a Subscribe is told as unanswered.
-use Rattle.std.proofs.Common.{◌≡◌, ℕ, ◌==◌, Bool, true, false, cond, if◌then◌else◌, not, ◌||◌, List, [], ◌∷◌, ◌++◌, Option, None, Some, refl, sym, ap, ◌∙◌}
+-- Why a Subscribe is told as unanswered, and an answer as unasked.
+use Rattle.std.proofs.Common.{◌≡◌, ℕ, ◌==◌, ◌≤◌, nat_lt, Bool, true, false, cond, if◌then◌else◌, not, ◌||◌, List, [], ◌∷◌, ◌++◌, Option, None, Some, is_some, refl, sym, ap, ◌∙◌, arith}
+use Rattle.std.proofs.lemmas.Bool.Decides.{nat_tests}
 use Rattle.std.specs.Ordering.{eq_by_cmp}
 use Rattle.someip_tables.specs.Retained.{kept_if}
 use Rattle.someip_tables.proofs.Entries.{own_test, same_by_test}
 use Rattle.audit_sd.specs.declared.subscriptions.entry.Asked.{Asked}
 use Rattle.audit_sd.specs.declared.subscriptions.entry.EntryKind.{EntryKind}
 use Rattle.audit_sd.specs.declared.subscriptions.entry.EntryKind.TheVariants.{Answer, Subscribe}
+use Rattle.audit_sd.specs.declared.subscriptions.entry.SubscribeEntry.{SubscribeEntry}
+use Rattle.audit_sd.specs.declared.subscriptions.finding.Finding.{Finding}
+use Rattle.audit_sd.specs.declared.subscriptions.finding.Finding.TheVariants.{UnaskedAck, UnaskedNack}
 use Rattle.audit_sd.specs.declared.subscriptions.key.SubscriptionKey.{SubscriptionKey}
+use Rattle.audit_sd.specs.declared.subscriptions.owed.Owed.{Owed}
 use Rattle.audit_sd.specs.subscriptions.SubscriptionKeys.{subscription_cmp}
 use Rattle.audit_sd.specs.subscriptions.SubscriptionOrder.{subscriptions_total, exact_subscriptions}
-use Rattle.audit_sd.specs.subscriptions.SubscribeRules.{asked_at, is_late, is_of, unless_late}
-use Rattle.audit_sd.specs.subscriptions.SubscribeHistories.{BeganAgain, Entry, Event, Shown, changed_by, or_asked, unanswered_in, waiting_in, waits_after}
-use Rattle.audit_sd.specs.subscriptions.SubscribeReasons.{IsWaiting, NoneSince, is_answer, leaves}
+use Rattle.audit_sd.specs.subscriptions.SubscribeRules.{asked_at, is_late, is_of, unasked_as, unless_late}
+use Rattle.audit_sd.specs.subscriptions.SubscribeHistories.{BeganAgain, Entry, Event, Shown, changed_by, or_asked, owed_in, unanswered_in, unasked_in, waiting_in, waits_after}
+use Rattle.audit_sd.specs.subscriptions.SubscribeReasons.{IsUnasked, IsWaiting, NoneSince, is_answer, leaves}
 
 kept : (p : Asked → Bool) (v : Option Asked) (asked : Asked) → kept_if p v ≡ Some asked → (v ≡ Some asked) × (p asked ≡ true)
 kept p None asked is = absurd (cc)
@@ -124,3 +129,27 @@ unanswered_is answer_ms now key asked events is = let late = kept (is_late now) 
 
 pub is_unanswered : (answer_ms now : ℕ) (key : SubscriptionKey) (asked : Asked) (events : List Event) → IsWaiting answer_ms key asked events → is_late now asked ≡ true → unanswered_in answer_ms events now key ≡ Some asked
 is_unanswered answer_ms now key asked events waits late = ap (kept_if (is_late now)) (is_waiting answer_ms key asked events waits) ∙ rw late refl
+
+-- ---- an answer that nobody asked for
+
+at_least : (a b : ℕ) → nat_lt a b ≡ false → b ≤ a
+at_least a b is = grind (arith, nat_tests)
+
+not_below : (a b : ℕ) → b ≤ a → nat_lt a b ≡ false
+not_below a b is = grind (arith, nat_tests)
+
+pub unasked_is : (settled now : ℕ) (entry : SubscribeEntry) (finding : Finding) (events : List Event) → unasked_in settled events now entry ≡ Some finding → IsUnasked settled now entry finding events
+unasked_is settled now entry finding events is = cases (nat_lt now settled) (owed_in events entry.key) refl refl is
+  where
+    by : (kind : EntryKind) → entry.kind ≡ kind → nat_lt now settled ≡ false → owed_in events entry.key ≡ None → unasked_as kind entry ≡ Some finding → IsUnasked settled now entry finding events
+    by Subscribe kind later none e = absurd (cc)
+    by Answer kind later none e = (kind, at_least now settled later, none, (let same : (if entry.ttl == 0 then UnaskedNack else UnaskedAck) ≡ finding = cc in sym same))
+
+    cases : (b : Bool) (v : Option Owed) → nat_lt now settled ≡ b → owed_in events entry.key ≡ v → (if b || is_some v then None else unasked_as entry.kind entry) ≡ Some finding
+        → IsUnasked settled now entry finding events
+    cases true v later none e = absurd (cc)
+    cases false (Some owed) later none e = absurd (cc)
+    cases false None later none e = by entry.kind refl later none e
+
+pub is_unasked : (settled now : ℕ) (entry : SubscribeEntry) (finding : Finding) (events : List Event) → IsUnasked settled now entry finding events → unasked_in settled events now entry ≡ Some finding
+is_unasked settled now entry finding events one = rw (not_below now settled one.1, one.2, one.0) (ap (λ f. Some f) (sym one.3))

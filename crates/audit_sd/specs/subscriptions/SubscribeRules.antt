@@ -6,9 +6,11 @@ use Rattle.std.specs.declared.net.ipv4_addr.Ipv4Addr.{Ipv4Addr}
 use Rattle.someip_tables.specs.Endpoints.{address_cmp}
 use Rattle.someip_tables.specs.Retained.{kept_if}
 use Rattle.audit_sd.specs.declared.subscriptions.entry.Asked.{Asked}
+use Rattle.audit_sd.specs.declared.subscriptions.entry.EntryKind.{EntryKind}
+use Rattle.audit_sd.specs.declared.subscriptions.entry.EntryKind.TheVariants.{Answer, Subscribe}
 use Rattle.audit_sd.specs.declared.subscriptions.entry.SubscribeEntry.{SubscribeEntry}
 use Rattle.audit_sd.specs.declared.subscriptions.finding.Finding.{Finding}
-use Rattle.audit_sd.specs.declared.subscriptions.finding.Finding.TheVariants.{Nack}
+use Rattle.audit_sd.specs.declared.subscriptions.finding.Finding.TheVariants.{Nack, UnaskedAck, UnaskedNack}
 use Rattle.audit_sd.specs.declared.subscriptions.key.SubscriptionKey.{SubscriptionKey}
 
 -- the moment until which a Subscribe waits
@@ -26,6 +28,11 @@ is_of address key = eq_by_cmp address_cmp key.client address || eq_by_cmp addres
 -- what is told of an answer: a Nack, whatever it answers
 abbrev pub told_of_answer : SubscribeEntry → Option Finding
 told_of_answer entry = if entry.ttl == 0 then Some Nack else None
+
+-- what an entry is told as that nobody asked for: an Ack or a Nack may be, a Subscribe or a StopSubscribe is not
+abbrev pub unasked_as : EntryKind → SubscribeEntry → Option Finding
+unasked_as Subscribe entry = None
+unasked_as Answer entry = Some (if entry.ttl == 0 then UnaskedNack else UnaskedAck)
 
 -- a Subscribe has waited too long
 abbrev pub is_late : ℕ → Asked → Bool

@@ -5,13 +5,14 @@ ghost use Rattle.std.specs.FinMap as finite;
 ghost use Rattle.std.specs.declared.net.ipv4_addr.Ipv4Addr.{Ipv4Addr};
 ghost use Rattle.someip_tables.specs.hashed.Rooms.{may_hold};
 ghost use Rattle.sd_session.specs.declared.stamp.Stamp.{Stamp};
-ghost use Rattle.audit_sd.specs.declared.sessions.finding.Finding.TheVariants.{Reboot, NotNext, Full};
+ghost use Rattle.audit_sd.specs.declared.sessions.finding.Finding.TheVariants.{Reboot, NotNext, Overtaken, Full};
+ghost use Rattle.audit_sd.specs.declared.sessions.last.Last.{Last};
 ghost use Rattle.audit_sd.specs.sessions.SessionRules.{has_session, judged};
 ghost use Rattle.audit_sd.specs.declared.sessions.message.SdMessage.{SdMessage};
 ghost use Rattle.audit_sd.specs.sessions.SessionBooks.{Sessions, sessions_after, told_by};
 ghost use Rattle.audit_sd.specs.sessions.Histories.{last_in, sessions_of, shown_after};
-ghost use Rattle.audit_sd.specs.sessions.Reasons.{IsLast, IsNotNext, IsReboot};
-ghost use Rattle.audit_sd.specs.sessions.Examples.{group, node, sent, stamp};
+ghost use Rattle.audit_sd.specs.sessions.Reasons.{IsLast, IsNotNext, IsOvertaken, IsReboot};
+ghost use Rattle.audit_sd.specs.sessions.Examples.{came, group, node, sent, stamp};
 
 /// What a message shows, by the stamp of the last one, by example. A sender counts from 1 to FFFF with
 /// the Reboot flag, and then for ever from 1 to FFFF without it.
@@ -37,63 +38,95 @@ pub fn findings_by_example()
     ensures flag_gone { judged (Some (stamp 5 true)) (stamp 6 false)
         ≡ Some (NotNext (stamp 6 false) (stamp 6 true)) }
     // Session 0 shows nothing, and 1 in its place does.
-    ensures zero { shown_after (sent (node 1) group 5 false ∷ []) (sent (node 1) group 0 false) ≡ None }
-    ensures one { shown_after (sent (node 1) group 5 false ∷ []) (sent (node 1) group 1 false)
+    ensures zero { shown_after 100 (sent 8 (node 1) group 5 false ∷ []) (sent 9 (node 1) group 0 false) ≡ None }
+    ensures one { shown_after 100 (sent 8 (node 1) group 5 false ∷ []) (sent 9 (node 1) group 1 false)
         ≡ Some (NotNext (stamp 1 false) (stamp 6 false)) }
-    ensures zero_with_flag { shown_after (sent (node 1) group 5 true ∷ [])
-        (sent (node 1) group 0 true) ≡ None }
-    ensures one_with_flag { shown_after (sent (node 1) group 5 true ∷ [])
-        (sent (node 1) group 1 true) ≡ Some Reboot }
+    ensures zero_with_flag { shown_after 100 (sent 8 (node 1) group 5 true ∷ [])
+        (sent 9 (node 1) group 0 true) ≡ None }
+    ensures one_with_flag { shown_after 100 (sent 8 (node 1) group 5 true ∷ [])
+        (sent 9 (node 1) group 1 true) ≡ Some Reboot }
     // Nor does it change what the next one shows.
-    ensures after_zero { shown_after (sent (node 1) group 0 true ∷ sent (node 1) group 5 true ∷ [])
-        (sent (node 1) group 7 true) ≡ Some (NotNext (stamp 7 true) (stamp 6 true)) }
-    ensures zero_first { shown_after (sent (node 1) group 0 true ∷ []) (sent (node 1) group 7 true)
+    ensures after_zero { shown_after 100 (sent 8 (node 1) group 0 true ∷ sent 7 (node 1) group 5 true ∷ [])
+        (sent 9 (node 1) group 7 true) ≡ Some (NotNext (stamp 7 true) (stamp 6 true)) }
+    ensures zero_first { shown_after 100 (sent 8 (node 1) group 0 true ∷ []) (sent 9 (node 1) group 7 true)
         ≡ None }
 {}
 
 /// A sender counts what it sends to each destination apart, by example. The newest message is first.
 pub fn destinations_are_counted_apart()
-    ensures apart { shown_after (sent (node 1) group 5 true ∷ []) (sent (node 1) (node 2) 1 true)
+    ensures apart { shown_after 100 (sent 8 (node 1) group 5 true ∷ []) (sent 9 (node 1) (node 2) 1 true)
         ≡ None }
-    ensures together { shown_after (sent (node 1) group 5 true ∷ []) (sent (node 1) group 1 true)
+    ensures together { shown_after 100 (sent 8 (node 1) group 5 true ∷ []) (sent 9 (node 1) group 1 true)
         ≡ Some Reboot }
-    ensures other_sender { shown_after (sent (node 1) group 5 true ∷ []) (sent (node 2) group 1 true)
+    ensures other_sender { shown_after 100 (sent 8 (node 1) group 5 true ∷ []) (sent 9 (node 2) group 1 true)
         ≡ None }
-    ensures beyond { shown_after (sent (node 1) (node 2) 1 true ∷ sent (node 1) group 5 true ∷ [])
-        (sent (node 1) group 7 true) ≡ Some (NotNext (stamp 7 true) (stamp 6 true)) }
+    ensures beyond { shown_after 100 (sent 8 (node 1) (node 2) 1 true ∷ sent 7 (node 1) group 5 true ∷ [])
+        (sent 9 (node 1) group 7 true) ≡ Some (NotNext (stamp 7 true) (stamp 6 true)) }
 {}
 
 /// A reboot is told once, whatever the destinations, and of other senders nothing is forgotten, by
 /// example. Node 1 sent to the group and to node 3, and so did node 2; then node 1 begins again.
 pub fn a_reboot_is_told_once()
-    ensures told { shown_after (sent (node 1) (node 3) 7 true ∷ sent (node 2) (node 3) 7 true
-        ∷ sent (node 1) group 5 true ∷ []) (sent (node 1) group 1 true) ≡ Some Reboot }
-    ensures once { shown_after (sent (node 1) group 1 true ∷ sent (node 1) (node 3) 7 true
-        ∷ sent (node 2) (node 3) 7 true ∷ sent (node 1) group 5 true ∷ [])
-        (sent (node 1) (node 3) 1 true) ≡ None }
-    ensures goes_on { shown_after (sent (node 1) group 1 true ∷ sent (node 1) (node 3) 7 true
-        ∷ sent (node 2) (node 3) 7 true ∷ sent (node 1) group 5 true ∷ [])
-        (sent (node 1) group 3 true) ≡ Some (NotNext (stamp 3 true) (stamp 2 true)) }
-    ensures again { shown_after (sent (node 1) (node 3) 1 true ∷ sent (node 1) group 1 true
-        ∷ sent (node 1) (node 3) 7 true ∷ sent (node 1) group 5 true ∷ [])
-        (sent (node 1) (node 3) 1 true) ≡ Some Reboot }
-    ensures others { shown_after (sent (node 1) group 1 true ∷ sent (node 1) (node 3) 7 true
-        ∷ sent (node 2) (node 3) 7 true ∷ sent (node 1) group 5 true ∷ [])
-        (sent (node 2) (node 3) 9 true) ≡ Some (NotNext (stamp 9 true) (stamp 8 true)) }
+    ensures told { shown_after 100 (sent 8 (node 1) (node 3) 7 true ∷ sent 7 (node 2) (node 3) 7 true
+        ∷ sent 6 (node 1) group 5 true ∷ []) (sent 9 (node 1) group 1 true) ≡ Some Reboot }
+    ensures once { shown_after 100 (sent 8 (node 1) group 1 true ∷ sent 7 (node 1) (node 3) 7 true
+        ∷ sent 6 (node 2) (node 3) 7 true ∷ sent 5 (node 1) group 5 true ∷ [])
+        (sent 9 (node 1) (node 3) 1 true) ≡ None }
+    ensures goes_on { shown_after 100 (sent 8 (node 1) group 1 true ∷ sent 7 (node 1) (node 3) 7 true
+        ∷ sent 6 (node 2) (node 3) 7 true ∷ sent 5 (node 1) group 5 true ∷ [])
+        (sent 9 (node 1) group 3 true) ≡ Some (NotNext (stamp 3 true) (stamp 2 true)) }
+    ensures again { shown_after 100 (sent 8 (node 1) (node 3) 1 true ∷ sent 7 (node 1) group 1 true
+        ∷ sent 6 (node 1) (node 3) 7 true ∷ sent 5 (node 1) group 5 true ∷ [])
+        (sent 9 (node 1) (node 3) 1 true) ≡ Some Reboot }
+    ensures others { shown_after 100 (sent 8 (node 1) group 1 true ∷ sent 7 (node 1) (node 3) 7 true
+        ∷ sent 6 (node 2) (node 3) 7 true ∷ sent 5 (node 1) group 5 true ∷ [])
+        (sent 9 (node 2) (node 3) 9 true) ≡ Some (NotNext (stamp 9 true) (stamp 8 true)) }
 {}
 
-/// A book that was never full holds the newest stamps of the messages so far, and tells of each message
+/// Which messages were overtaken, by example: one of the 8 sessions before the last, with the same flag, that
+/// comes at most 100 milliseconds after it. The newest message is first.
+pub fn messages_are_overtaken()
+    ensures overtaken { shown_after 100 (came 1000 (node 1) group 7 true ∷ [])
+        (came 1050 (node 1) group 6 true) ≡ Some (Overtaken (stamp 6 true)) }
+    ensures without_flag { shown_after 100 (came 1000 (node 1) group 7 false ∷ [])
+        (came 1050 (node 1) group 6 false) ≡ Some (Overtaken (stamp 6 false)) }
+    ensures at_last { shown_after 100 (came 1000 (node 1) group 7 true ∷ [])
+        (came 1100 (node 1) group 6 true) ≡ Some (Overtaken (stamp 6 true)) }
+    ensures too_late { shown_after 100 (came 1000 (node 1) group 7 true ∷ [])
+        (came 1101 (node 1) group 6 true) ≡ Some Reboot }
+    ensures eighth { shown_after 100 (came 1000 (node 1) group 9 true ∷ [])
+        (came 1050 (node 1) group 1 true) ≡ Some (Overtaken (stamp 1 true)) }
+    ensures ninth { shown_after 100 (came 1000 (node 1) group 10 true ∷ [])
+        (came 1050 (node 1) group 1 true) ≡ Some Reboot }
+    ensures same { shown_after 100 (came 1000 (node 1) group 7 true ∷ [])
+        (came 1050 (node 1) group 7 true) ≡ Some Reboot }
+    ensures flag_set { shown_after 100 (came 1000 (node 1) group 7 false ∷ [])
+        (came 1050 (node 1) group 6 true) ≡ Some Reboot }
+    ensures flag_gone { shown_after 100 (came 1000 (node 1) group 7 true ∷ [])
+        (came 1050 (node 1) group 6 false) ≡ Some (NotNext (stamp 6 false) (stamp 8 true)) }
+    ensures at_once { shown_after 0 (came 1000 (node 1) group 7 true ∷ [])
+        (came 1000 (node 1) group 6 true) ≡ Some (Overtaken (stamp 6 true)) }
+    ensures elsewhere { shown_after 100 (came 1000 (node 1) group 7 true ∷ [])
+        (came 1050 (node 1) (node 2) 6 true) ≡ None }
+    // The last one stays the last, with its moment.
+    ensures stays { shown_after 100 (came 1050 (node 1) group 6 true ∷ came 1000 (node 1) group 7 true ∷ [])
+        (came 1060 (node 1) group 8 true) ≡ None }
+    ensures twice { shown_after 100 (came 1090 (node 1) group 6 true ∷ came 1000 (node 1) group 7 true ∷ [])
+        (came 1101 (node 1) group 5 true) ≡ Some Reboot }
+{}
+
+/// A book that was never full holds the newest of the messages so far that count, and tells of each message
 /// what these show. It is never full while they are no more than its limit.
 pub fn a_book_tells_what_the_messages_show()
-    ensures kept { (limit : ℕ) (messages : List SdMessage) (sender destination : Ipv4Addr)
-        → (sessions_of limit messages).told_full ≡ false
-        → finite.get (sessions_of limit messages).last (sender, destination)
-        ≡ last_in messages sender destination }
-    ensures told { (limit : ℕ) (messages : List SdMessage) (message : SdMessage)
-        → (sessions_of limit (message ∷ messages)).told_full ≡ false
-        → told_by message (sessions_of limit messages) ≡ shown_after messages message }
-    ensures room { (limit : ℕ) (messages : List SdMessage) → length messages ≤ limit
-        → (sessions_of limit messages).told_full ≡ false }
+    ensures kept { (limit overtake : ℕ) (messages : List SdMessage) (sender destination : Ipv4Addr)
+        → (sessions_of limit overtake messages).told_full ≡ false
+        → finite.get (sessions_of limit overtake messages).last (sender, destination)
+        ≡ last_in overtake messages sender destination }
+    ensures told { (limit overtake : ℕ) (messages : List SdMessage) (message : SdMessage)
+        → (sessions_of limit overtake (message ∷ messages)).told_full ≡ false
+        → told_by message (sessions_of limit overtake messages) ≡ shown_after overtake messages message }
+    ensures room { (limit overtake : ℕ) (messages : List SdMessage) → length messages ≤ limit
+        → (sessions_of limit overtake messages).told_full ≡ false }
 {}
 
 /// That a book is full is told once in its life.
@@ -107,16 +140,19 @@ pub fn full_is_told_once()
         → told_by message book ≡ Some Full }
 {}
 
-/// A reboot and a session that is not the next one are told exactly where their reasons in plain words
-/// hold. What the messages give as the last stamp of a sender to a destination is that of a message among
-/// them since which none came, and no other showed that the sender began again.
+/// A reboot, a session that is not the next one, and that a message was overtaken, are told exactly where their
+/// reasons in plain words hold. What the messages give as the last of a sender to a destination is one among
+/// them that counts, since which none that counts came, and no other showed that the sender began again.
 pub fn each_finding_has_its_reason()
-    ensures reboot { (message : SdMessage) (messages : List SdMessage)
-        → (shown_after messages message ≡ Some Reboot) ↔ IsReboot message messages }
-    ensures not_next { (stamp expected : Stamp) (message : SdMessage) (messages : List SdMessage)
-        → (shown_after messages message ≡ Some (NotNext stamp expected))
-        ↔ IsNotNext stamp expected message messages }
-    ensures last { (sender destination : Ipv4Addr) (stamp : Stamp) (messages : List SdMessage)
-        → (last_in messages sender destination ≡ Some stamp)
-        ↔ IsLast sender destination stamp messages }
+    ensures overtaken { (overtake : ℕ) (stamp : Stamp) (message : SdMessage) (messages : List SdMessage)
+        → (shown_after overtake messages message ≡ Some (Overtaken stamp))
+        ↔ IsOvertaken overtake stamp message messages }
+    ensures reboot { (overtake : ℕ) (message : SdMessage) (messages : List SdMessage)
+        → (shown_after overtake messages message ≡ Some Reboot) ↔ IsReboot overtake message messages }
+    ensures not_next { (overtake : ℕ) (stamp expected : Stamp) (message : SdMessage)
+        (messages : List SdMessage) → (shown_after overtake messages message ≡ Some (NotNext stamp expected))
+        ↔ IsNotNext overtake stamp expected message messages }
+    ensures last { (overtake : ℕ) (sender destination : Ipv4Addr) (last : Last) (messages : List SdMessage)
+        → (last_in overtake messages sender destination ≡ Some last)
+        ↔ IsLast overtake sender destination last messages }
 {}

@@ -7,6 +7,10 @@ use someip_tables::hashed::Origin;
 pub enum Finding {
     /// The server refused the subscription.
     Nack,
+    /// An Ack comes, and every Subscribe of its subscription has had its answer.
+    UnaskedAck,
+    /// A Nack comes, and every Subscribe of its subscription has had its answer.
+    UnaskedNack,
     /// The book holds as many Subscribes as it may, so this one is not taken. It is told once in the
     /// life of a book.
     Full,

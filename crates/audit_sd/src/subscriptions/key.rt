@@ -1,7 +1,9 @@
 //! What tells subscriptions apart.
+ghost use Rattle.std.specs.Prelude.{◌≡◌};
+ghost use Rattle.audit_sd.specs.subscriptions.SubscribeRules.{is_of};
 ghost use Rattle.audit_sd.specs.subscriptions.SubscriptionOrder.{exact_subscriptions};
 
-use someip_tables::Key;
+use someip_tables::{Key, is_same_key};
 use std::net::Ipv4Addr;
 
 /// What tells subscriptions apart: by rising address of the client, then of the server, and then by the
@@ -26,4 +28,11 @@ pub struct SubscriptionKey {
 
 impl Key for SubscriptionKey {
     ghost exact = { exact_subscriptions };
+}
+
+/// Whether a subscription is of an address: that of its client or of its server.
+pub(crate) fn is_of(key: &SubscriptionKey, address: Ipv4Addr) -> bool
+    ensures { result ≡ is_of address key.now }
+{
+    is_same_key(&key.client, &address) || is_same_key(&key.server, &address)
 }

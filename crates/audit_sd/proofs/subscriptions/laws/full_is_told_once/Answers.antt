@@ -1,4 +1,4 @@
-use Rattle.audit_sd.proofs.about_subscriptions.HistoryLemmas.{full_noted, full_stays, full_told}
+use Rattle.audit_sd.proofs.about_subscriptions.HistoryLemmas.{full_noted, full_stays, full_told, silent_once_full}
 use Rattle.audit_sd.proofs.subscriptions.laws.full_is_told_once.Goals as goal
 
 pub returns-clause-notes : goal.returns-clause-notes
@@ -9,3 +9,6 @@ returns-clause-stays c = full_stays
 
 pub returns-clause-tells : goal.returns-clause-tells
 returns-clause-tells c = full_told
+
+pub returns-clause-silences : goal.returns-clause-silences
+returns-clause-silences c = silent_once_full

@@ -9,4 +9,5 @@ use Rattle.audit_sd.proofs.subscriptions.subscribe_book.SubscribeBook.forget.Goa
 pub invariant_of-self : goal.invariant_of-self
 invariant_of-self c =
     let less = len-retain-≤ subscriptions_total exact_subscriptions (map_of subscription_cmp c.self.inside.waiting) (λ key _. not (is_of c.args.address key)) in
-    rw c.forget.ensures (omega (arith, less, c.self.invariant))
+    let owed = len-retain-≤ subscriptions_total exact_subscriptions (map_of subscription_cmp c.self.inside.owed) (λ key _. not (is_of c.args.address key)) in
+    rw (c.forget.ensures, c.forgive.ensures) (omega (arith, less, owed, c.self.invariant))
