@@ -1,10 +1,12 @@
 //! Laws of the definitions behind the contracts. Each is the contract of a function that does nothing:
 //! it says what the sessions of events show, whatever code keeps the book.
-ghost use Rattle.std.specs.Prelude.{◌≡◌, ℕ, List, [], ◌∷◌, true, false, None, Some};
+ghost use Rattle.std.specs.Prelude.{◌≡◌, ◌↔◌, ℕ, List, [], ◌∷◌, true, false, None, Some};
 ghost use Rattle.std.specs.FinMap as finite;
 ghost use Rattle.someip_tables.specs.declared.hashed.origin.Numbers.{Numbers};
 ghost use Rattle.audit_traffic.specs.declared.events.notification.Notification.{Notification};
+ghost use Rattle.audit_traffic.specs.declared.gaps.awaited.Awaited.{Awaited};
 ghost use Rattle.audit_traffic.specs.declared.gaps.key.MissingEvent.{MissingEvent};
+ghost use Rattle.audit_traffic.specs.declared.sequence.counting.Counting.{Counting};
 ghost use Rattle.audit_traffic.specs.declared.sequence.counting.Counting.TheVariants.{ByEvent, BySender};
 ghost use Rattle.audit_traffic.specs.declared.sequence.finding.Finding.TheVariants.{Lost, Overtaken, Repeated};
 ghost use Rattle.audit_traffic.specs.declared.sequence.sequence_book.SequenceRules.{SequenceRules};
@@ -12,6 +14,7 @@ ghost use Rattle.audit_traffic.specs.events.EventExamples.{flow_to, node};
 ghost use Rattle.audit_traffic.specs.sequence.Sequences.{told_by};
 ghost use Rattle.audit_traffic.specs.sequence.SequenceHistories.{BeganAgain, Came, Changed, Step, book_of, missing_in};
 ghost use Rattle.audit_traffic.specs.sequence.SequenceHistories.{told_in, without_lost};
+ghost use Rattle.audit_traffic.specs.sequence.SequenceReasons.{IsMissing};
 ghost use Rattle.audit_traffic.specs.sequence.SequenceExamples.{another_at, at, numbers, session_of, shows, shows_by_sender};
 
 /// What events that overtake each other show, by example. What was overtaken may come 100 milliseconds later, and
@@ -75,4 +78,11 @@ pub fn a_book_tells_what_the_steps_show()
         → (book_of rules (record { at = now; shown = Came numbers event } ∷ steps)).gaps.told_full ≡ false
         → told_by numbers event (without_lost now (book_of rules steps))
         ≡ told_in rules.counting rules.overtake_ms steps now numbers event }
+{}
+
+/// A session is missing exactly where an event is among the steps that skips it, it was not missing then, and since then no
+/// event had it, nor did its deadline come before the last of them.
+pub fn each_session_has_its_reason()
+    ensures { (counting : Counting) (overtake_ms : ℕ) (key : MissingEvent) (awaited : Awaited) (steps : List Step)
+        → (missing_in counting overtake_ms steps key ≡ Some awaited) ↔ IsMissing counting overtake_ms key awaited steps }
 {}
