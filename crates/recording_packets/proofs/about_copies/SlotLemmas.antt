@@ -1,10 +1,11 @@
 -- The turns of packets after a change of a slot or of the others.
-use Rattle.std.proofs.Common.{◌≡◌, ◌≢◌, ℕ, ◌<◌, ◌+◌, ◌/◌, ◌%◌, ◌^◌, ◌==◌, zero, suc, length, Bool, true, false, cond, List, [], ◌∷◌, ◌++◌, Option, None, Some, ◌&&◌, nat_lt, refl, ap, sym, ◌∙◌, arith}
+use Rattle.std.proofs.Common.{◌≡◌, ◌≢◌, ℕ, ◌<◌, ◌+◌, ◌/◌, ◌%◌, ◌^◌, ◌==◌, zero, suc, length, Bool, true, false, cond, List, [], ◌∷◌, ◌++◌, Option, None, Some, ◌&&◌, nat_lt, refl, ap, sym, ◌∙◌, append_assoc, append-nil, take, arith}
 use Rattle.std.specs.List.{flat_map, slice_index_or, slice_set}
 use Rattle.std.specs.Option.{is_none, is_some, option_or}
 use Rattle.std.specs.BTreeMap as tree
 use Rattle.std.specs.BTreeMap.{is_at}
-use Rattle.std.proofs.lemmas.List.{get_or-set_same, get_or-set_other}
+use Rattle.std.proofs.lemmas.List.{get_or-set_same, get_or-set_other, get_or_default, take_more}
+use Rattle.std.proofs.lemmas.Grind.{flat_map-append}
 use Rattle.std.proofs.lemmas.Nat.{shr-shr}
 use Rattle.std.proofs.lemmas.Bool.Decides.{nat_tests}
 use Rattle.std.proofs.lemmas.Bool.{eqb-false, eqb-true, eq-eqb, false_from_ne_true}
@@ -249,7 +250,7 @@ same_turns turns turns' shift slots others q =
 -- ---- twice as many slots
 
 -- what stands in one of the two slots for one
-half : ℕ → Bool → Option Place → Option Place
+abbrev half : ℕ → Bool → Option Place → Option Place
 half s second place = cond second (cond (is_second s place) place None) (cond (is_second s place) None place)
 
 second_of : (s : ℕ) (x : Option Place) (l : List (Option Place)) → slice_index_or (halves s x ++ l) 1 None ≡ half s true x
@@ -318,3 +319,12 @@ doubled_turns turns turns' shift small slots others q =
     ∙ ap (λ x. turn_at x q) (at_half turns'.shift turns.slots.items (slot_of turns'.shift q))
     ∙ in_half turns'.shift (slice_index_or turns.slots.items (slot_of turns'.shift q / 2) None) q
     ∙ ap (λ i. turn_at (slice_index_or turns.slots.items i None) q) (slot_before turns.shift turns'.shift q shift small))
+
+-- one slot more was moved
+pub moved_more : (f : Option Place → List (Option Place)) (old now first more : List (Option Place)) (i : ℕ) (x : Option Place) → i < length old → i < length now
+    → slice_index_or now i None ≡ slice_index_or old i None → x ≡ slice_index_or now i x → more ≡ first ++ flat_map f (take i old) → more ++ f x ≡ first ++ flat_map f (take (i + 1) old)
+moved_more f old now first more i x below within left item moved =
+    let one : slice_index_or old i None ≡ x = sym left ∙ sym (get_or_default now i x None within) ∙ sym item in
+    ap (λ l. l ++ f x) moved ∙ append_assoc first (flat_map f (take i old)) (f x)
+    ∙ ap (λ l. first ++ l)
+    (sym (ap (flat_map f) (take_more old i None below) ∙ flat_map-append f (take i old) (slice_index_or old i None ∷ []) ∙ ap (λ y. flat_map f (take i old) ++ y) (append-nil (f (slice_index_or old i None)) ∙ ap f one)))
