@@ -1,5 +1,5 @@
 -- The turns of packets after a change of a slot or of the others.
-use Rattle.std.proofs.Common.{◌≡◌, ◌≢◌, ℕ, ◌<◌, ◌+◌, ◌/◌, ◌%◌, ◌^◌, ◌==◌, zero, suc, length, Bool, true, false, cond, List, [], ◌∷◌, ◌++◌, Option, None, Some, ◌&&◌, nat_lt, refl, ap, sym, ◌∙◌, append_assoc, append-nil, take, arith}
+use Rattle.std.proofs.Common.{◌≡◌, ◌≢◌, ℕ, ◌<◌, ◌+◌, ◌/◌, ◌%◌, ◌^◌, ◌==◌, zero, suc, length, Bool, true, false, cond, List, [], ◌∷◌, ◌++◌, Option, None, Some, ◌&&◌, nat_le, nat_lt, ◌≤◌, refl, ap, sym, ◌∙◌, append_assoc, append-nil, take, arith}
 use Rattle.std.specs.List.{flat_map, slice_index_or, slice_set}
 use Rattle.std.specs.Option.{is_none, is_some, option_or}
 use Rattle.std.specs.BTreeMap as tree
@@ -12,10 +12,11 @@ use Rattle.std.proofs.lemmas.Bool.{eqb-false, eqb-true, eq-eqb, false_from_ne_tr
 use Rattle.recording.specs.Packets.{Ipv4Value}
 use Rattle.recording_packets.specs.copies.Remembered.{is_same}
 use Rattle.recording_packets.specs.copies.Owned.{packet_of}
-use Rattle.recording_packets.specs.copies.Slots.{halves, is_place, is_second, place_in, shared_cmp, slot_of, turn_at, turn_in, with_turn}
+use Rattle.recording_packets.specs.copies.Slots.{halves, is_crowded, is_place, is_second, place_in, shared_cmp, slot_of, turn_at, turn_in, with_turn}
 use Rattle.recording_packets.specs.declared.copies.owned.SharedPacket.{SharedPacket}
 use Rattle.recording_packets.specs.declared.copies.turns.Place.{Place}
 use Rattle.recording_packets.specs.declared.copies.turns.Turns.{Turns}
+use Rattle.recording_packets.specs.declared.copies.turns.TheConstants.{FIRST_SHIFT, LEAST_SHIFT}
 use Rattle.recording_packets.proofs.about_copies.SamePackets.{both, same_is, same_mark, same_self, is_same_by, tie_is}
 
 -- nothing tells two packets apart
@@ -328,3 +329,21 @@ moved_more f old now first more i x below within left item moved =
     ap (λ l. l ++ f x) moved ∙ append_assoc first (flat_map f (take i old)) (f x)
     ∙ ap (λ l. first ++ l)
     (sym (ap (flat_map f) (take_more old i None below) ∙ flat_map-append f (take i old) (slice_index_or old i None ∷ []) ∙ ap (λ y. flat_map f (take i old) ++ y) (append-nil (f (slice_index_or old i None)) ∙ ap f one)))
+
+-- there are no fewer slots
+pub more_slots : (s : ℕ) (l : List (Option Place)) → length l ≤ length (flat_map (halves s) l)
+more_slots s [] = omega arith
+more_slots s (x ∷ l) = cases (is_second s x) (more_slots s l)
+  where
+    cases : (b : Bool) → length l ≤ length (flat_map (halves s) l) → suc (length l) ≤ length (cond b (None ∷ x ∷ []) (x ∷ None ∷ []) ++ flat_map (halves s) l)
+    cases true h = omega (arith, h)
+    cases false h = omega (arith, h)
+
+-- the shift of slots that are doubled
+pub crowded_shift : (s n : ℕ) → is_crowded s n ≡ true → (0 < s) × (s < 64)
+crowded_shift s n h =
+    let most = both (nat_lt LEAST_SHIFT s && nat_le s FIRST_SHIFT) _ h in
+    let shift = both (nat_lt LEAST_SHIFT s) (nat_le s FIRST_SHIFT) most.0 in
+    let above : 48 < s = grind (arith, nat_tests, shift.0) in
+    let below : s ≤ 56 = grind (arith, nat_tests, shift.1) in
+    (omega (arith, above), omega (arith, below))
