@@ -4,6 +4,8 @@ use Rattle.std.specs.List.{flat_map, slice_index_or, slice_set}
 use Rattle.std.specs.Option.{is_none, is_some, option_or}
 use Rattle.std.specs.BTreeMap as tree
 use Rattle.std.specs.BTreeMap.{is_at}
+use Rattle.std.specs.Map.{lookup}
+use Rattle.std.specs.Prelude.{IsTrue, ◌↔◌}
 use Rattle.std.proofs.lemmas.List.{get_or-set_same, get_or-set_other, get_or_default, take_more}
 use Rattle.std.proofs.lemmas.Grind.{flat_map-append}
 use Rattle.std.proofs.lemmas.Nat.{shr-shr}
@@ -347,3 +349,19 @@ crowded_shift s n h =
     let above : 48 < s = grind (arith, nat_tests, shift.0) in
     let below : s ≤ 56 = grind (arith, nat_tests, shift.1) in
     (omega (arith, above), omega (arith, below))
+
+-- no packet is among no others
+no_entry : (p : SharedPacket → Bool) (es : List (SharedPacket × ℕ)) → length es ≡ 0 → lookup p es ≡ None
+no_entry p [] h = refl
+no_entry p (e ∷ es) h = absurd (omega (arith, h))
+
+pub no_others : (others : List (SharedPacket × ℕ)) (empty : Bool) → IsTrue empty ↔ (length others ≡ 0) → empty ≡ true → (q : SharedPacket) → lookup (is_at (shared_cmp q)) others ≡ None
+no_others others empty tells h q = no_entry (is_at (shared_cmp q)) others (tells.0 h)
+
+pub none_gone : (others : List (SharedPacket × ℕ)) (k : SharedPacket) → ((q : SharedPacket) → lookup (is_at (shared_cmp q)) others ≡ None)
+    → (q : SharedPacket) → lookup (is_at (shared_cmp q)) others ≡ cond (is_at (shared_cmp k) q) None (lookup (is_at (shared_cmp q)) others)
+none_gone others k none q = cases (is_at (shared_cmp k) q)
+  where
+    cases : (b : Bool) → lookup (is_at (shared_cmp q)) others ≡ cond b None (lookup (is_at (shared_cmp q)) others)
+    cases true = none q
+    cases false = refl
