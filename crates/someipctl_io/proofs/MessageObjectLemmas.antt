@@ -10,7 +10,7 @@ use Rattle.someip_wire.specs.declared.MessageType.TheVariants.{Request, RequestN
 use Rattle.someipctl_io.specs.declared.form.Form.TheVariants.{Json}
 use Rattle.someipctl_io.specs.JsonTexts.{json_text, key_text}
 use Rattle.someipctl_io.specs.Lines.{type_name}
-use Rattle.someipctl_io.specs.MessageObjects.{code_members, ids_members, session_members}
+use Rattle.someipctl_io.specs.MessageObjects.{code_members, ids_members, interface_members, session_members}
 use Rattle.someipctl_io.specs.ToldLines.{end_text, fields_text}
 use Rattle.someipctl_io.specs.ToldItems.{message_fields}
 use Rattle.someipctl_io.proofs.EscapeLemmas.{escape-hex2, escape-hex4}
@@ -38,18 +38,21 @@ ids-shape s m = simp (append_assoc, append-nil)
 pub ids-text : (service method : ℕ) → codes ",\"service\":\"" ++ (hex4 service ++ (codes "\",\"method\":\"" ++ (hex4 method ++ codes "\",\"length\":"))) ≡ ids_members service method
 ids-text service method = rw (escape-hex4 service, escape-hex4 method) (ids-shape (hex4 service) (hex4 method))
 
-session-shape : (c s i : List ℕ) → codes ",\"client\":\"" ++ (c ++ (codes "\",\"session\":\"" ++ (s ++ (codes "\",\"interface\":\"" ++ (i ++ codes "\",\"type\":\"")))))
-    ≡ ((codes "," ++ (key_text (codes "client") ++ (codes "\"" ++ (c ++ codes "\"")))) ++ ((codes "," ++ (key_text (codes "session") ++ (codes "\"" ++ (s ++ codes "\""))))
-    ++ ((codes "," ++ (key_text (codes "interface") ++ (codes "\"" ++ (i ++ codes "\"")))) ++ [])))
-    ++ (codes "," ++ (key_text (codes "type") ++ codes "\""))
+session-shape : (c s : List ℕ) → codes ",\"client\":\"" ++ (c ++ (codes "\",\"session\":\"" ++ (s ++ codes "\"")))
+    ≡ (codes "," ++ (key_text (codes "client") ++ (codes "\"" ++ (c ++ codes "\"")))) ++ ((codes "," ++ (key_text (codes "session") ++ (codes "\"" ++ (s ++ codes "\"")))) ++ [])
 unfolding escape_byte
-session-shape c s i = simp (append_assoc, append-nil)
+session-shape c s = simp (append_assoc, append-nil)
 
-pub session-text : (client session interface : ℕ) → interface < 256
-    → codes ",\"client\":\"" ++ (hex4 client ++ (codes "\",\"session\":\"" ++ (hex4 session ++ (codes "\",\"interface\":\"" ++ (hex2 interface ++ codes "\",\"type\":\"")))))
-    ≡ session_members client session interface
-session-text client session interface low =
-    rw (escape-hex4 client, escape-hex4 session, escape-hex2 interface low) (session-shape (hex4 client) (hex4 session) (hex2 interface))
+pub session-text : (client session : ℕ) → codes ",\"client\":\"" ++ (hex4 client ++ (codes "\",\"session\":\"" ++ (hex4 session ++ codes "\""))) ≡ session_members client session
+session-text client session = rw (escape-hex4 client, escape-hex4 session) (session-shape (hex4 client) (hex4 session))
+
+interface-shape : (i : List ℕ) → codes ",\"interface\":\"" ++ (i ++ codes "\",\"type\":\"")
+    ≡ (codes "," ++ (key_text (codes "interface") ++ (codes "\"" ++ (i ++ codes "\"")))) ++ (codes "," ++ (key_text (codes "type") ++ codes "\""))
+unfolding escape_byte
+interface-shape i = simp (append_assoc, append-nil)
+
+pub interface-text : (interface : ℕ) → interface < 256 → codes ",\"interface\":\"" ++ (hex2 interface ++ codes "\",\"type\":\"") ≡ interface_members interface
+interface-text interface low = rw (escape-hex2 interface low) (interface-shape (hex2 interface))
 
 code-shape : (c : List ℕ) → codes "\",\"code\":\"" ++ (c ++ codes "\",\"payload\":\"")
     ≡ codes "\"" ++ ((codes "," ++ (key_text (codes "code") ++ (codes "\"" ++ (c ++ codes "\"")))) ++ (codes "," ++ (key_text (codes "payload") ++ codes "\"")))
@@ -66,19 +69,19 @@ member_of key text = codes "," ++ (key_text key ++ (codes "\"" ++ (text ++ codes
 -- what a message says, and the end of its object
 members-shape : (s m n c ss i t cd p : List ℕ)
     → ((member_of (codes "service") s ++ (member_of (codes "method") m ++ [])) ++ (codes "," ++ key_text (codes "length")))
-    ++ (n ++ (((member_of (codes "client") c ++ (member_of (codes "session") ss ++ (member_of (codes "interface") i ++ []))) ++ (codes "," ++ (key_text (codes "type") ++ codes "\"")))
-    ++ (t ++ ((codes "\"" ++ (member_of (codes "code") cd ++ (codes "," ++ (key_text (codes "payload") ++ codes "\"")))) ++ (p ++ codes "\"}\n")))))
+    ++ (n ++ ((member_of (codes "client") c ++ (member_of (codes "session") ss ++ [])) ++ ((member_of (codes "interface") i ++ (codes "," ++ (key_text (codes "type") ++ codes "\"")))
+    ++ (t ++ ((codes "\"" ++ (member_of (codes "code") cd ++ (codes "," ++ (key_text (codes "payload") ++ codes "\"")))) ++ (p ++ codes "\"}\n"))))))
     ≡ (member_of (codes "service") s ++ (member_of (codes "method") m ++ ((codes "," ++ (key_text (codes "length") ++ n)) ++ (member_of (codes "client") c
     ++ (member_of (codes "session") ss ++ (member_of (codes "interface") i ++ (member_of (codes "type") t ++ (member_of (codes "code") cd ++ (member_of (codes "payload") p ++ [])))))))))
     ++ codes "}\n"
 unfolding escape_byte
 members-shape s m n c ss i t cd p = simp (append_assoc, append-nil)
 
-pub members-text : (m : MessageValue) (ids session code : List ℕ) → ids ≡ ids_members m.header.service m.header.method
-    → session ≡ session_members m.header.client m.header.session m.header.interface → code ≡ code_members m.header.code.0
-    → ids ++ (decimal (8 + length m.payload) ++ (session ++ (escape (type_name m.header.kind) ++ (code ++ (escape (encode_lower m.payload) ++ codes "\"}\n")))))
+pub members-text : (m : MessageValue) (ids session interface code : List ℕ) → ids ≡ ids_members m.header.service m.header.method
+    → session ≡ session_members m.header.client m.header.session → interface ≡ interface_members m.header.interface → code ≡ code_members m.header.code.0
+    → ids ++ (decimal (8 + length m.payload) ++ (session ++ (interface ++ (escape (type_name m.header.kind) ++ (code ++ (escape (encode_lower m.payload) ++ codes "\"}\n"))))))
     ≡ fields_text Json (message_fields m) ++ end_text Json
-members-text m ids session code i s c =
-    rw (i, s, c)
+members-text m ids session interface code i s f c =
+    rw (i, s, f, c)
     (members-shape (escape (hex4 m.header.service)) (escape (hex4 m.header.method)) (decimal (8 + length m.payload)) (escape (hex4 m.header.client)) (escape (hex4 m.header.session))
     (escape (hex2 m.header.interface)) (escape (type_name m.header.kind)) (escape (hex2 m.header.code.0)) (escape (encode_lower m.payload)))

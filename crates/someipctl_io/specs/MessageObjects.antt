@@ -10,12 +10,14 @@ ids_members service method =
     fields_text Json (field (codes " ") (codes "service") (id service) ∷ field (codes ".") (codes "method") (id method) ∷ [])
     ++ (codes "," ++ key_text (codes "length"))
 
--- between its length and the name of its type
-abbrev pub session_members : ℕ → ℕ → ℕ → List ℕ
-session_members client session interface =
-    fields_text Json (field (codes " client ") (codes "client") (id client) ∷ field (codes " session ") (codes "session") (id session)
-    ∷ field (codes " interface ") (codes "interface") (byte interface) ∷ [])
-    ++ (codes "," ++ (key_text (codes "type") ++ codes "\""))
+-- between its length and its interface version
+abbrev pub session_members : ℕ → ℕ → List ℕ
+session_members client session = fields_text Json (field (codes " client ") (codes "client") (id client) ∷ field (codes " session ") (codes "session") (id session) ∷ [])
+
+-- between its session and the name of its type
+abbrev pub interface_members : ℕ → List ℕ
+interface_members interface =
+    field_text Json (field (codes " interface ") (codes "interface") (byte interface)) ++ (codes "," ++ (key_text (codes "type") ++ codes "\""))
 
 -- between the name of its type and its payload
 abbrev pub code_members : ℕ → List ℕ

@@ -7,7 +7,7 @@ ghost use Rattle.someip_wire.specs.View.{view};
 ghost use Rattle.someipctl_io.specs.Lines.{type_name};
 ghost use Rattle.someipctl_io.specs.Parts.{part_text};
 ghost use Rattle.someipctl_io.specs.Sending.{Sends, Stops};
-ghost use Rattle.someipctl_io.specs.MessageObjects.{code_members, ids_members, session_members};
+ghost use Rattle.someipctl_io.specs.MessageObjects.{code_members, ids_members, interface_members, session_members};
 ghost use Rattle.someipctl_io.specs.ToldLines.{end_text, fields_text, line_text};
 ghost use Rattle.someipctl_io.specs.ToldViews.{view_head};
 ghost use Rattle.someipctl_io.specs.ToldItems.{message_fields, told};
@@ -51,9 +51,17 @@ fn put_members<W: Write>(
 {
     let header = message.header;
     let ids = ids_members(header.service, header.method);
-    let session = session_members(header.client, header.session, header.interface);
+    let session = session_members(header.client, header.session);
+    let interface = interface_members(header.interface);
     let code = code_members(header.code.0);
-    let parts = member_parts(&ids, &session, header.kind, &code, message.payload);
+    let parts = member_parts(
+        &ids,
+        &session,
+        &interface,
+        header.kind,
+        &code,
+        message.payload,
+    );
     put_parts(buffer, writer, &parts)
 }
 
@@ -61,18 +69,20 @@ fn put_members<W: Write>(
 fn member_parts<'p>(
     ids: &'p [u8],
     session: &'p [u8],
+    interface: &'p [u8],
     kind: MessageType,
     code: &'p [u8],
     payload: &'p [u8],
-) -> [Part<'p>; 7]
+) -> [Part<'p>; 8]
     ensures { flat_map part_text result ≡ ids.now ++ (decimal (8 + length payload.now)
-        ++ (session.now ++ (escape (type_name kind)
-        ++ (code.now ++ (escape (encode_lower payload.now) ++ codes "\"}\n"))))) }
+        ++ (session.now ++ (interface.now ++ (escape (type_name kind)
+        ++ (code.now ++ (escape (encode_lower payload.now) ++ codes "\"}\n")))))) }
 {
     [
         Part::Raw(ids),
         Part::Number(8 + payload.len()),
         Part::Raw(session),
+        Part::Raw(interface),
         Part::Text(name_of_type(kind)),
         Part::Raw(code),
         Part::Hex(payload),
@@ -90,14 +100,22 @@ fn ids_members(service: u16, method: u16) -> [u8; 43]
     text
 }
 
-/// The members of a message between its length and the name of its type.
-fn session_members(client: u16, session: u16, interface: u8) -> [u8; 59]
-    ensures { result ≡ session_members client session interface }
+/// The members of a message between its length and its interface version.
+fn session_members(client: u16, session: u16) -> [u8; 33]
+    ensures { result ≡ session_members client session }
 {
-    let mut text = *b",\"client\":\"0000\",\"session\":\"0000\",\"interface\":\"00\",\"type\":\"";
+    let mut text = *b",\"client\":\"0000\",\"session\":\"0000\"";
     write_hex(&client.to_be_bytes(), &mut text[11..15]);
     write_hex(&session.to_be_bytes(), &mut text[28..32]);
-    write_hex(&[interface], &mut text[47..49]);
+    text
+}
+
+/// What stands between the session of a message and the name of its type.
+fn interface_members(interface: u8) -> [u8; 26]
+    ensures { result ≡ interface_members interface }
+{
+    let mut text = *b",\"interface\":\"00\",\"type\":\"";
+    write_hex(&[interface], &mut text[14..16]);
     text
 }
 
