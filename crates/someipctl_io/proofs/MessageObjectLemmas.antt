@@ -49,7 +49,7 @@ session-text client session = rw (escape-hex4 client, escape-hex4 session) (sess
 interface-shape : (i : List ℕ) → codes ",\"interface\":\"" ++ (i ++ codes "\",\"type\":\"")
     ≡ (codes "," ++ (key_text (codes "interface") ++ (codes "\"" ++ (i ++ codes "\"")))) ++ (codes "," ++ (key_text (codes "type") ++ codes "\""))
 unfolding escape_byte
-interface-shape i = simp (append_assoc, append-nil)
+interface-shape i = simp append_assoc
 
 pub interface-text : (interface : ℕ) → interface < 256 → codes ",\"interface\":\"" ++ (hex2 interface ++ codes "\",\"type\":\"") ≡ interface_members interface
 interface-text interface low = rw (escape-hex2 interface low) (interface-shape (hex2 interface))
@@ -57,7 +57,7 @@ interface-text interface low = rw (escape-hex2 interface low) (interface-shape (
 code-shape : (c : List ℕ) → codes "\",\"code\":\"" ++ (c ++ codes "\",\"payload\":\"")
     ≡ codes "\"" ++ ((codes "," ++ (key_text (codes "code") ++ (codes "\"" ++ (c ++ codes "\"")))) ++ (codes "," ++ (key_text (codes "payload") ++ codes "\"")))
 unfolding escape_byte
-code-shape c = simp (append_assoc, append-nil)
+code-shape c = simp append_assoc
 
 pub code-text : (code : ℕ) → code < 256 → codes "\",\"code\":\"" ++ (hex2 code ++ codes "\",\"payload\":\"") ≡ code_members code
 code-text code low = rw (escape-hex2 code low) (code-shape (hex2 code))
@@ -65,6 +65,37 @@ code-text code low = rw (escape-hex2 code low) (code-shape (hex2 code))
 -- a member whose value is a text, behind others
 abbrev member_of : List ℕ → List ℕ → List ℕ
 member_of key text = codes "," ++ (key_text key ++ (codes "\"" ++ (text ++ codes "\"")))
+
+ids-part : (s m n rest : List ℕ) → ((member_of (codes "service") s ++ (member_of (codes "method") m ++ [])) ++ (codes "," ++ key_text (codes "length"))) ++ (n ++ rest)
+    ≡ member_of (codes "service") s ++ (member_of (codes "method") m ++ ((codes "," ++ (key_text (codes "length") ++ n)) ++ rest))
+unfolding escape_byte
+ids-part s m n rest = simp (append_assoc, append-nil)
+
+session-part : (a b rest : List ℕ) → (a ++ (b ++ [])) ++ rest ≡ a ++ (b ++ rest)
+session-part a b rest = simp (append_assoc, append-nil)
+
+type-part : (i t rest : List ℕ) → (member_of (codes "interface") i ++ (codes "," ++ (key_text (codes "type") ++ codes "\""))) ++ (t ++ (codes "\"" ++ rest))
+    ≡ member_of (codes "interface") i ++ (member_of (codes "type") t ++ rest)
+unfolding escape_byte
+type-part i t rest = simp append_assoc
+
+payload-part : (c p : List ℕ) → (member_of (codes "code") c ++ (codes "," ++ (key_text (codes "payload") ++ codes "\""))) ++ (p ++ codes "\"}\n")
+    ≡ member_of (codes "code") c ++ (member_of (codes "payload") p ++ codes "}\n")
+unfolding escape_byte
+payload-part c p = simp append_assoc
+
+all-parts : (a b c d e f g h i end : List ℕ) → a ++ (b ++ (c ++ (d ++ (e ++ (f ++ (g ++ (h ++ (i ++ end)))))))) ≡ (a ++ (b ++ (c ++ (d ++ (e ++ (f ++ (g ++ (h ++ (i ++ []))))))))) ++ end
+all-parts a b c d e f g h i end =
+    let last : i ++ end ≡ (i ++ []) ++ end = ap (λ (t : List ℕ). t ++ end) (sym (append-nil i)) in
+    ap (λ (t : List ℕ). a ++ (b ++ (c ++ (d ++ (e ++ (f ++ (g ++ (h ++ t)))))))) last
+    ∙ ap (λ (t : List ℕ). a ++ (b ++ (c ++ (d ++ (e ++ (f ++ (g ++ t))))))) (sym (append_assoc h (i ++ []) end))
+    ∙ ap (λ (t : List ℕ). a ++ (b ++ (c ++ (d ++ (e ++ (f ++ t)))))) (sym (append_assoc g (h ++ (i ++ [])) end))
+    ∙ ap (λ (t : List ℕ). a ++ (b ++ (c ++ (d ++ (e ++ t))))) (sym (append_assoc f (g ++ (h ++ (i ++ []))) end))
+    ∙ ap (λ (t : List ℕ). a ++ (b ++ (c ++ (d ++ t)))) (sym (append_assoc e (f ++ (g ++ (h ++ (i ++ [])))) end))
+    ∙ ap (λ (t : List ℕ). a ++ (b ++ (c ++ t))) (sym (append_assoc d (e ++ (f ++ (g ++ (h ++ (i ++ []))))) end))
+    ∙ ap (λ (t : List ℕ). a ++ (b ++ t)) (sym (append_assoc c (d ++ (e ++ (f ++ (g ++ (h ++ (i ++ [])))))) end))
+    ∙ ap (λ (t : List ℕ). a ++ t) (sym (append_assoc b (c ++ (d ++ (e ++ (f ++ (g ++ (h ++ (i ++ []))))))) end))
+    ∙ sym (append_assoc a (b ++ (c ++ (d ++ (e ++ (f ++ (g ++ (h ++ (i ++ [])))))))) end)
 
 -- what a message says, and the end of its object
 members-shape : (s m n c ss i t cd p : List ℕ)
@@ -74,8 +105,18 @@ members-shape : (s m n c ss i t cd p : List ℕ)
     ≡ (member_of (codes "service") s ++ (member_of (codes "method") m ++ ((codes "," ++ (key_text (codes "length") ++ n)) ++ (member_of (codes "client") c
     ++ (member_of (codes "session") ss ++ (member_of (codes "interface") i ++ (member_of (codes "type") t ++ (member_of (codes "code") cd ++ (member_of (codes "payload") p ++ [])))))))))
     ++ codes "}\n"
-unfolding escape_byte
-members-shape s m n c ss i t cd p = simp (append_assoc, append-nil)
+members-shape s m n c ss i t cd p =
+    let code = member_of (codes "code") cd ++ (codes "," ++ (key_text (codes "payload") ++ codes "\"")) in
+    let interface = member_of (codes "interface") i ++ (codes "," ++ (key_text (codes "type") ++ codes "\"")) in
+    let head : List ℕ → List ℕ = λ (x : List ℕ). member_of (codes "service") s ++ (member_of (codes "method") m ++ ((codes "," ++ (key_text (codes "length") ++ n)) ++ x)) in
+    let next : List ℕ → List ℕ = λ (x : List ℕ). head (member_of (codes "client") c ++ (member_of (codes "session") ss ++ x)) in
+    ids-part s m n ((member_of (codes "client") c ++ (member_of (codes "session") ss ++ [])) ++ (interface ++ (t ++ ((codes "\"" ++ code) ++ (p ++ codes "\"}\n")))))
+    ∙ ap head (session-part (member_of (codes "client") c) (member_of (codes "session") ss) (interface ++ (t ++ ((codes "\"" ++ code) ++ (p ++ codes "\"}\n")))))
+    ∙ ap (λ (x : List ℕ). next (interface ++ (t ++ x))) (append_assoc (codes "\"") code (p ++ codes "\"}\n"))
+    ∙ ap next (type-part i t (code ++ (p ++ codes "\"}\n")))
+    ∙ ap (λ (x : List ℕ). next (member_of (codes "interface") i ++ (member_of (codes "type") t ++ x))) (payload-part cd p)
+    ∙ all-parts (member_of (codes "service") s) (member_of (codes "method") m) (codes "," ++ (key_text (codes "length") ++ n)) (member_of (codes "client") c) (member_of (codes "session") ss)
+    (member_of (codes "interface") i) (member_of (codes "type") t) (member_of (codes "code") cd) (member_of (codes "payload") p) (codes "}\n")
 
 pub members-text : (m : MessageValue) (ids session interface code : List ℕ) → ids ≡ ids_members m.header.service m.header.method
     → session ≡ session_members m.header.client m.header.session → interface ≡ interface_members m.header.interface → code ≡ code_members m.header.code.0
