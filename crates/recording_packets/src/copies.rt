@@ -19,6 +19,7 @@ ghost use Rattle.std.specs.Prelude.{◌≡◌, [], IfOk, OnOk, OnErr};
 ghost use Rattle.recording.specs.View.{view_ipv4};
 ghost use Rattle.recording_packets.specs.copies.Remembered.{after, is_copy};
 
+mod doubling;
 pub mod laws;
 mod owned;
 mod sightings;

@@ -7,5 +7,6 @@ pub mod RoomLemmas
 pub mod EscapeLemmas
 pub mod JsonLemmas
 pub mod ObjectLemmas
+pub mod MessageObjectLemmas
 pub mod PlainLemmas
 pub mod ValueLemmas

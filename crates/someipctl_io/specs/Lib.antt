@@ -14,4 +14,5 @@ pub mod OptionObjects
 pub mod ToldLines
 pub mod ToldViews
 pub mod ToldItems
+pub mod MessageObjects
 pub mod ToldExamples

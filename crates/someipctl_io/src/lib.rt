@@ -28,6 +28,7 @@ mod input;
 mod items;
 mod laws;
 mod lines;
+mod message_objects;
 mod objects;
 mod options;
 mod outcome;

@@ -10,7 +10,9 @@ ghost use Rattle.someipctl_io.specs.ToldViews.{view_field, view_head, view_line,
 ghost use Rattle.someipctl_io.specs.ToldItems.{dropped_told, empty_told, fault_told, message_fields, message_told};
 ghost use Rattle.someipctl_io.specs.ToldItems.{segment_fields, segments_told, told, whole_told};
 
+use crate::form::Form;
 use crate::lines::name_of_type;
+use crate::message_objects::put_message_object;
 use crate::output::{Buffer, CannotWrite};
 use crate::told::{Field, Line, LineHead, Said, put_line};
 use someip_reassembly::read_segment;
@@ -43,12 +45,15 @@ pub(crate) fn put_message_in<W: Write>(
     ensures err { OnErr result (Stops (W.contents writer.old) buffer.old (W.contents writer.new)
         (line_text head.now.form (view_head head.now) (message_told (view message.now)))) }
 {
-    put_line(
-        buffer,
-        writer,
-        head,
-        &line("message", &message_fields(message)),
-    )
+    match head.form {
+        Form::Plain => put_line(
+            buffer,
+            writer,
+            head,
+            &line("message", &message_fields(message)),
+        ),
+        Form::Json => put_message_object(buffer, writer, head, "message", message),
+    }
 }
 
 /// Prints the line of a message, without the TP flag, that a segment made whole.
@@ -63,12 +68,15 @@ pub fn put_whole_in<W: Write>(
     ensures err { OnErr result (Stops (W.contents writer.old) buffer.old (W.contents writer.new)
         (line_text head.now.form (view_head head.now) (whole_told (view message.now)))) }
 {
-    put_line(
-        buffer,
-        writer,
-        head,
-        &line("whole", &message_fields(message)),
-    )
+    match head.form {
+        Form::Plain => put_line(
+            buffer,
+            writer,
+            head,
+            &line("whole", &message_fields(message)),
+        ),
+        Form::Json => put_message_object(buffer, writer, head, "whole", message),
+    }
 }
 
 /// Prints the line of a segment that is not put together.

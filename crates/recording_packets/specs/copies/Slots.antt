@@ -1,5 +1,5 @@
 -- The turns of packets, in the slots of their digests and among the others.
-use Rattle.std.specs.Prelude.{ℕ, ◌/◌, Bool, false, ◌&&◌, ◌==◌, if◌then◌else◌, Option, None, Some, slice_index_or}
+use Rattle.std.specs.Prelude.{ℕ, ◌-◌, ◌/◌, ◌%◌, ◌^◌, nat_le, nat_lt, Bool, false, ◌&&◌, ◌==◌, if◌then◌else◌, List, [], ◌∷◌, Option, None, Some, slice_index_or}
 use Rattle.std.specs.Option.{option_or}
 use Rattle.std.specs.BTreeMap as tree
 use Rattle.std.specs.Cmp.Lexicographic.{slice_cmp}
@@ -11,7 +11,7 @@ use Rattle.recording_packets.specs.declared.copies.owned.OwnedPacket.{OwnedPacke
 use Rattle.recording_packets.specs.declared.copies.owned.SharedPacket.{SharedPacket}
 use Rattle.recording_packets.specs.declared.copies.turns.Place.{Place}
 use Rattle.recording_packets.specs.declared.copies.turns.Turns.{Turns}
-use Rattle.recording_packets.specs.declared.copies.turns.TheConstants.{SLOT_WIDTH}
+use Rattle.recording_packets.specs.declared.copies.turns.TheConstants.{FIRST_SHIFT, LEAST_SHIFT, SLOTS_PER_PACKET}
 
 -- the order of packets: field by field, those first in which two mostly differ
 abbrev pub packet_cmp : OwnedPacket → OwnedPacket → Ordering
@@ -26,13 +26,13 @@ packet_cmp a b =
 abbrev pub shared_cmp : SharedPacket → SharedPacket → Ordering
 shared_cmp a b = ordering_then (nat_cmp a.mark b.mark) (packet_cmp a.owned.value b.owned.value)
 
--- the slot of a packet
-abbrev pub slot_of : SharedPacket → ℕ
-slot_of packet = packet.mark / SLOT_WIDTH
+-- the slot of a packet: its mark without so many of the lower bits
+abbrev pub slot_of : ℕ → SharedPacket → ℕ
+slot_of shift packet = packet.mark / 2 ^ (shift % 64)
 
 -- what stands in the slot of a packet
 abbrev pub place_in : Turns → SharedPacket → Option Place
-place_in turns packet = slice_index_or turns.slots.items (slot_of packet) None
+place_in turns packet = slice_index_or turns.slots.items (slot_of turns.shift packet) None
 
 -- the turn of a packet by what stands in its slot
 abbrev pub turn_at : Option Place → SharedPacket → Option ℕ
@@ -53,3 +53,18 @@ is_place mark turn (Some place) = place.packet.mark == mark && place.turn == tur
 abbrev pub with_turn : ℕ → Option Place → Option Place
 with_turn turn None = None
 with_turn turn (Some place) = Some (record place { turn = turn })
+
+-- there are few slots for so many packets, and not yet the most
+abbrev pub is_crowded : ℕ → ℕ → Bool
+is_crowded shift packets =
+    nat_lt LEAST_SHIFT shift && nat_le shift FIRST_SHIFT
+    && nat_lt ((2 ^ 64 - 1) / 2 ^ (shift % 64) / SLOTS_PER_PACKET) packets
+
+-- where there are two slots for one, what stands in it stands in the second
+abbrev pub is_second : ℕ → Option Place → Bool
+is_second shift None = false
+is_second shift (Some place) = slot_of shift place.packet % 2 == 1
+
+-- the two slots for one
+abbrev pub halves : ℕ → Option Place → List (Option Place)
+halves shift place = if is_second shift place then None ∷ place ∷ [] else place ∷ None ∷ []
