@@ -1,0 +1,3 @@
+pub mod LinkLemmas
+pub mod BlockLemmas
+pub mod FileLemmas

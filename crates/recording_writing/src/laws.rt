@@ -1,0 +1,80 @@
+//! Laws of the definitions behind the contracts. Each is the contract of a function that does nothing.
+ghost use Rattle.std.specs.Prelude.{◌≡◌, ◌<◌, ◌≤◌, ◌^◌, ◌++◌, ◌∷◌, ℕ, List, [], length, take, slice_get};
+ghost use Rattle.std.specs.Prelude.{IfSome, None, Some, Ok, true, false};
+ghost use Rattle.std.specs.List.{AllByRecursion};
+ghost use Rattle.recording.specs.Captured.{RecordValue};
+ghost use Rattle.recording.specs.HeldItems.{held_of};
+ghost use Rattle.recording.specs.HeldSpelling.{IsHeldBlock};
+ghost use Rattle.recording.specs.Records.{items_of};
+ghost use Rattle.recording.specs.Spelling.{IsBlocks, block_bytes, blocks_bytes};
+ghost use Rattle.recording.specs.declared.number.ByteOrder.TheVariants.{Big, Little};
+ghost use Rattle.recording.specs.Times.{time_of};
+ghost use Rattle.recording_writing.specs.Blocks.{blocks_for, has_ticks, is_simple, is_too_long};
+ghost use Rattle.recording_writing.specs.Blocks.{links_after, number_of, section_block};
+ghost use Rattle.recording_writing.specs.Files.{AreLinkTypes, IsPacket, file_blocks, file_of};
+ghost use Rattle.recording_writing.specs.Files.{items_read, links_of, packet_read, packets_blocks};
+ghost use Rattle.recording_writing.specs.Files.{time_read};
+
+/// The file of packets is a recording in blocks, and what is read of it is just these packets, in their
+/// order, but for those that are too long: whether it is read from memory or as it comes.
+pub fn what_is_written_is_read()
+    ensures blocks { (ks : List RecordValue) → AllByRecursion IsPacket ks
+        → IsBlocks (file_blocks ks) None (file_of ks) }
+    ensures read { (ks : List RecordValue) → AllByRecursion IsPacket ks
+        → items_of (file_of ks) ≡ Ok (items_read ks) }
+    ensures held { (ks : List RecordValue) → AllByRecursion IsPacket ks
+        → held_of (file_of ks) ≡ items_read ks }
+{}
+
+/// A packet is read with its link type, its length and its bytes.
+pub fn packets_are_kept()
+    ensures link { (links : List ℕ) (k : RecordValue) → (packet_read links k).link ≡ k.link }
+    ensures original { (links : List ℕ) (k : RecordValue) → (packet_read links k).original ≡ k.original }
+    ensures bytes { (links : List ℕ) (k : RecordValue) → (packet_read links k).bytes ≡ k.bytes }
+{}
+
+/// A packet is read with its time: one that the file can say, or none. In place of any other it has the
+/// time 0.
+pub fn times_are_kept()
+    ensures kept { (links : List ℕ) (k : RecordValue)
+        → IfSome k.time (λ t. t.nanoseconds < 1000000000) → has_ticks k.time ≡ true
+        → time_read links k ≡ k.time }
+    ensures none { (links : List ℕ) (k : RecordValue) → is_simple links k ≡ true
+        → time_read links k ≡ k.time }
+    ensures lost { (links : List ℕ) (k : RecordValue) → has_ticks k.time ≡ false
+        → is_simple links k ≡ false → time_read links k ≡ Some (time_of 0) }
+{}
+
+/// Each link type has one interface: its number is the place of the link type among those that came. It
+/// stays so, and no more interfaces are described than there are link types.
+pub fn link_types_have_interfaces()
+    ensures has { (links : List ℕ) (k : RecordValue) → is_too_long links k ≡ false
+        → slice_get (links_after links k) (number_of links k.link) ≡ Some k.link }
+    ensures stay { (links : List ℕ) (k : RecordValue)
+        → take (length links) (links_after links k) ≡ links }
+    ensures once { (links : List ℕ) (k : RecordValue) → IsPacket k → AreLinkTypes links
+        → AreLinkTypes (links_after links k) }
+    ensures most { (links : List ℕ) → AreLinkTypes links → length links ≤ 65536 }
+{}
+
+/// A packet whose block a reader would not hold is left out, and changes nothing; a reader holds each block
+/// that is written. What its block has beside the packet is 16 bytes, or 32.
+pub fn long_packets_are_left_out()
+    ensures nothing { (links : List ℕ) (k : RecordValue) → is_too_long links k ≡ true
+        → (blocks_for links k ≡ []) × (links_after links k ≡ links) }
+    ensures held { (links : List ℕ) (ks : List RecordValue)
+        → AllByRecursion IsHeldBlock (packets_blocks links ks) }
+    ensures short { (links : List ℕ) (k : RecordValue) → length k.bytes ≤ 16777184
+        → is_too_long links k ≡ false }
+    ensures long { (links : List ℕ) (k : RecordValue) → 16777200 < length k.bytes
+        → is_too_long links k ≡ true }
+{}
+
+/// A file begins with the head of its section, and grows by the blocks of each packet.
+pub fn files_grow()
+    ensures begin { file_of [] ≡ block_bytes Big section_block }
+    ensures grow { (ks : List RecordValue) (k : RecordValue) → file_of (ks ++ k ∷ [])
+        ≡ file_of ks ++ blocks_bytes Little (blocks_for (links_of [] ks) k) }
+    ensures links { (ks : List RecordValue) (k : RecordValue)
+        → links_of [] (ks ++ k ∷ []) ≡ links_after (links_of [] ks) k }
+{}
