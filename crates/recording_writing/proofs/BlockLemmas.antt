@@ -1,5 +1,5 @@
 -- What the blocks of packets say.
-use Rattle.std.proofs.Common.{◌≡◌, ℕ, ◌+◌, ◌-◌, ◌*◌, ◌/◌, ◌%◌, ◌^◌, ◌<◌, ◌≤◌, min, Bool, true, false, cond, ltb, eqb, ◌&&◌, List, [], ◌∷◌, ◌++◌, length, map, take, drop, Option, Some, None, Ok, refl, sym, ap, subst, ◌∙◌, arith, lit<, lit≤}
+use Rattle.std.proofs.Common.{◌≡◌, ℕ, ◌+◌, ◌-◌, ◌*◌, ◌/◌, ◌%◌, ◌^◌, ◌<◌, ◌≤◌, min, Bool, true, false, cond, ltb, eqb, ◌&&◌, ◌||◌, List, [], ◌∷◌, ◌++◌, length, map, take, drop, Option, Some, None, Ok, refl, sym, ap, subst, ◌∙◌, arith, append_assoc, lit<, lit≤}
 use Rattle.std.specs.Prelude.{slice_get, is_none, IfSome}
 use Rattle.std.proofs.lemmas.Bool.{le-ltb, lt-ltb, ltb-false, ltb-true, eqb-true}
 use Rattle.std.proofs.lemmas.List.{take_at, length-append, length-replicate, map-append}
@@ -14,8 +14,9 @@ use Rattle.recording.specs.Interfaces.{option_within, interface_in}
 use Rattle.recording.specs.Sections.{meaning_of, interfaces_after}
 use Rattle.recording.specs.Held.{held_limit}
 use Rattle.recording.specs.HeldSpelling.{IsHeldBlock}
-use Rattle.recording.specs.Spelling.{SpelledBlock, body_by, value_by, bytes32, BlockFits}
-use Rattle.recording_writing.specs.Blocks.{interface_block, number_of, ticks, has_ticks, file_ticks, is_simple, padding, simple_block, enhanced_block, packet_block, is_too_long}
+use Rattle.recording.specs.Spelling.{SpelledBlock, block_bytes, body_by, value_by, bytes32, BlockFits}
+use Rattle.recording_writing.specs.Blocks.{numbers, interface_block, ticks, has_ticks, file_ticks, is_simple, padding, simple_block, enhanced_block, packet_block, is_too_long, put_of}
+use Rattle.recording_writing.specs.declared.writer.Put.TheVariants.{Exact, Untimed, TooLong}
 use Rattle.recording_writing.specs.Files.{IsPacket, packet_read, time_read}
 
 -- ---- lengths
@@ -45,11 +46,11 @@ fits_as false number k short =
     let held = ltb-false _ _ short in
     record { number = lit< tt; len = omega (arith, held); padded = omega (arith, len); told = λ same. omega (arith, same) }
 
-pub packet_fits : (links : List ℕ) (k : RecordValue) → is_too_long links k ≡ false → BlockFits (packet_block links k)
-packet_fits links k short = fits_as (is_simple links k) (number_of links k.link) k short
+pub packet_fits : (number : ℕ) (k : RecordValue) → is_too_long number k ≡ false → BlockFits (packet_block number k)
+packet_fits number k short = fits_as (is_simple number k) number k short
 
-pub packet_held : (links : List ℕ) (k : RecordValue) → is_too_long links k ≡ false → IsHeldBlock (packet_block links k)
-packet_held links k short = ltb-false _ _ short
+pub packet_held : (number : ℕ) (k : RecordValue) → is_too_long number k ≡ false → IsHeldBlock (packet_block number k)
+packet_held number k short = ltb-false _ _ short
 
 pub interface_fits : (link : ℕ) → BlockFits (interface_block link)
 interface_fits link = record { number = lit< tt; len = lit< tt; padded = refl; told = λ same. omega (arith, same) }
@@ -66,11 +67,11 @@ long_as : (simple : Bool) (number : ℕ) (k : RecordValue) → 16777200 < length
 long_as true number k less = lt-ltb _ _ (omega (arith, less, simple_len k))
 long_as false number k less = lt-ltb _ _ (omega (arith, less, enhanced_len number k))
 
-pub short : (links : List ℕ) (k : RecordValue) → length k.bytes ≤ 16777184 → is_too_long links k ≡ false
-short links k le = short_as (is_simple links k) (number_of links k.link) k le
+pub short : (number : ℕ) (k : RecordValue) → length k.bytes ≤ 16777184 → is_too_long number k ≡ false
+short number k le = short_as (is_simple number k) number k le
 
-pub long : (links : List ℕ) (k : RecordValue) → 16777200 < length k.bytes → is_too_long links k ≡ true
-long links k less = long_as (is_simple links k) (number_of links k.link) k less
+pub long : (number : ℕ) (k : RecordValue) → 16777200 < length k.bytes → is_too_long number k ≡ true
+long number k less = long_as (is_simple number k) number k less
 
 -- ---- the interface that is described
 
@@ -171,22 +172,21 @@ both true true is = (refl, refl)
 both true false is = absurd (let wrong : false ≡ true = is in cc)
 both false b is = absurd (let wrong : false ≡ true = is in cc)
 
-simple_facts : (links : List ℕ) (k : RecordValue) → is_simple links k ≡ true → (number_of links k.link ≡ 0) × (k.original ≡ length k.bytes)
-simple_facts links k is =
+simple_facts : (number : ℕ) (k : RecordValue) → is_simple number k ≡ true → (number ≡ 0) × (k.original ≡ length k.bytes)
+simple_facts number k is =
     let rest = (both (is_none k.time) _ is).1 in
-    let parts = both (eqb (number_of links k.link) 0) (eqb k.original (length k.bytes)) rest in
+    let parts = both (eqb number 0) (eqb k.original (length k.bytes)) rest in
     (eqb-true _ _ parts.0, eqb-true _ _ parts.1)
 
 size_as : (simple : Bool) (number : ℕ) (k : RecordValue) → ltb held_limit (12 + length (body_by (block_as simple number k))) ≡ false → length k.bytes < 2 ^ 32
 size_as true number k short = omega (arith, ltb-false _ _ short, simple_len k)
 size_as false number k short = omega (arith, ltb-false _ _ short, enhanced_len number k)
 
-pub packet_meaning : (links : List ℕ) (interfaces : List Interface) (p : ℕ) (k : RecordValue) → IsPacket k → number_of links k.link < 2 ^ 32 → is_too_long links k ≡ false
-    → slice_get interfaces (number_of links k.link) ≡ Some (nanosecond_interface k.link)
-    → meaning_of interfaces p (value_by Little (packet_block links k)) ≡ Ok (Some (packet_read links k))
-packet_meaning links interfaces p k fits few short at =
-    meaning_as (is_simple links k) interfaces p (number_of links k.link) k fits few (simple_facts links k)
-    (size_as (is_simple links k) (number_of links k.link) k short) at
+pub packet_meaning : (number : ℕ) (interfaces : List Interface) (p : ℕ) (k : RecordValue) → IsPacket k → number < 2 ^ 32 → is_too_long number k ≡ false
+    → slice_get interfaces number ≡ Some (nanosecond_interface k.link)
+    → meaning_of interfaces p (value_by Little (packet_block number k)) ≡ Ok (Some (packet_read number k))
+packet_meaning number interfaces p k fits few short at =
+    meaning_as (is_simple number k) interfaces p number k fits few (simple_facts number k) (size_as (is_simple number k) number k short) at
 
 -- ---- the time that is read
 
@@ -194,8 +194,8 @@ none_of : (time : Option Time) → is_none time ≡ true → None ≡ time
 none_of None none = refl
 none_of (Some t) none = absurd (let wrong : false ≡ true = none in cc)
 
-pub simple_time : (links : List ℕ) (k : RecordValue) → is_simple links k ≡ true → time_read links k ≡ k.time
-simple_time links k is =
+pub simple_time : (number : ℕ) (k : RecordValue) → is_simple number k ≡ true → time_read number k ≡ k.time
+simple_time number k is =
     ap (λ (simple : Bool). cond simple None (Some (time_of (file_ticks k.time)))) is ∙ none_of k.time (both (is_none k.time) _ is).0
 
 kept_as : (simple : Bool) (time : Option Time) → (simple ≡ true → None ≡ time) → IfSome time (λ t. t.nanoseconds < 1000000000) → has_ticks time ≡ true
@@ -204,13 +204,68 @@ kept_as true time none small has = none refl
 kept_as false None none small has = absurd (let wrong : false ≡ true = has in cc)
 kept_as false (Some t) none small has = ap (λ (fits : Bool). Some (time_of (cond fits (ticks t) 0))) has ∙ ap (λ (v : Time). Some v) (time_back t small)
 
-pub kept_time : (links : List ℕ) (k : RecordValue) → IfSome k.time (λ t. t.nanoseconds < 1000000000) → has_ticks k.time ≡ true → time_read links k ≡ k.time
-kept_time links k small has = kept_as (is_simple links k) k.time (λ is. none_of k.time (both (is_none k.time) _ is).0) small has
+pub kept_time : (number : ℕ) (k : RecordValue) → IfSome k.time (λ t. t.nanoseconds < 1000000000) → has_ticks k.time ≡ true → time_read number k ≡ k.time
+kept_time number k small has = kept_as (is_simple number k) k.time (λ is. none_of k.time (both (is_none k.time) _ is).0) small has
 
 lost_ticks : (time : Option Time) → has_ticks time ≡ false → file_ticks time ≡ 0
 lost_ticks None has = refl
 lost_ticks (Some t) has = ap (λ (fits : Bool). cond fits (ticks t) 0) has
 
-pub lost_time : (links : List ℕ) (k : RecordValue) → has_ticks k.time ≡ false → is_simple links k ≡ false → time_read links k ≡ Some (time_of 0)
-lost_time links k has is =
-    ap (λ (simple : Bool). cond simple None (Some (time_of (file_ticks k.time)))) is ∙ ap (λ (n : ℕ). Some (time_of n)) (lost_ticks k.time has)
+-- one that is told as untimed is none of the others
+untimed_as : (long simple has : Bool) → cond long TooLong (cond (simple || has) Exact Untimed) ≡ Untimed → (simple ≡ false) × (has ≡ false)
+untimed_as true simple has told = absurd (let wrong : TooLong ≡ Untimed = told in cc)
+untimed_as false true has told = absurd (let wrong : Exact ≡ Untimed = told in cc)
+untimed_as false false true told = absurd (let wrong : Exact ≡ Untimed = told in cc)
+untimed_as false false false told = (refl, refl)
+
+pub lost_time : (number : ℕ) (k : RecordValue) → put_of number k ≡ Untimed → time_read number k ≡ Some (time_of 0)
+lost_time number k told =
+    let is = untimed_as (is_too_long number k) (is_simple number k) (has_ticks k.time) told in
+    ap (λ (simple : Bool). cond simple None (Some (time_of (file_ticks k.time)))) is.0 ∙ ap (λ (n : ℕ). Some (time_of n)) (lost_ticks k.time is.1)
+
+-- one that is told as exact has its time
+exact_as : (long simple has : Bool) (time read : Option Time) → cond long TooLong (cond (simple || has) Exact Untimed) ≡ Exact → (simple ≡ true → read ≡ time) → (has ≡ true → read ≡ time) → read ≡ time
+exact_as true simple has time read told one other = absurd (let wrong : TooLong ≡ Exact = told in cc)
+exact_as false true has time read told one other = one refl
+exact_as false false true time read told one other = other refl
+exact_as false false false time read told one other = absurd (let wrong : Untimed ≡ Exact = told in cc)
+
+pub exact : (number : ℕ) (k : RecordValue) → IfSome k.time (λ t. t.nanoseconds < 1000000000) → put_of number k ≡ Exact → packet_read number k ≡ record k { interface = number }
+exact number k small told =
+    ap (λ (t : Option Time). read_as t number k)
+    (exact_as (is_too_long number k) (is_simple number k) (has_ticks k.time) k.time (time_read number k) told (simple_time number k) (kept_time number k small))
+
+-- one that is told as too long is
+too_long_as : (long exact : Bool) → cond long TooLong (cond exact Exact Untimed) ≡ TooLong → long ≡ true
+too_long_as true exact told = refl
+too_long_as false true told = absurd (let wrong : Exact ≡ TooLong = told in cc)
+too_long_as false false told = absurd (let wrong : Untimed ≡ TooLong = told in cc)
+
+pub told_long : (number : ℕ) (k : RecordValue) → put_of number k ≡ TooLong → is_too_long number k ≡ true
+told_long number k told = too_long_as (is_too_long number k) (is_simple number k || has_ticks k.time) told
+
+-- ---- the block of a packet
+
+pub block_simple : (number : ℕ) (k : RecordValue) → is_simple number k ≡ true → packet_block number k ≡ simple_block k
+block_simple number k is = ap (λ (simple : Bool). block_as simple number k) is
+
+pub block_enhanced : (number : ℕ) (k : RecordValue) → is_simple number k ≡ false → packet_block number k ≡ enhanced_block number k
+block_enhanced number k is = ap (λ (simple : Bool). block_as simple number k) is
+
+-- what it is written as: the numbers before the packet, its bytes, what fills them up, and the length of the block
+packed : (front : List ℕ) (bytes zeros back : List ℕ) → front ++ ((bytes ++ zeros) ++ back) ≡ front ++ (bytes ++ (zeros ++ back))
+packed front bytes zeros back = ap (λ (t : List ℕ). front ++ t) (append_assoc bytes zeros back)
+
+pub simple_packed : (k : RecordValue) (len : ℕ) → len ≡ 16 + length k.bytes + (4 - length k.bytes % 4) % 4
+    → numbers (3 ∷ len ∷ k.original ∷ []) ++ (k.bytes ++ (padding (length k.bytes) ++ numbers (len ∷ []))) ≡ block_bytes Little (simple_block k)
+simple_packed k len is =
+    let size : 12 + length (body_by (simple_block k)) ≡ len = omega (arith, is, simple_len k) in
+    rw size (sym (packed (numbers (3 ∷ len ∷ k.original ∷ [])) k.bytes (padding (length k.bytes)) (bytes32 Little len)))
+
+pub enhanced_packed : (number : ℕ) (k : RecordValue) (len : ℕ) → len ≡ 32 + length k.bytes + (4 - length k.bytes % 4) % 4
+    → numbers (6 ∷ len ∷ number ∷ file_ticks k.time / 2 ^ 32 ∷ file_ticks k.time % 2 ^ 32 ∷ length k.bytes ∷ k.original ∷ []) ++ (k.bytes ++ (padding (length k.bytes) ++ numbers (len ∷ [])))
+    ≡ block_bytes Little (enhanced_block number k)
+enhanced_packed number k len is =
+    let size : 12 + length (body_by (enhanced_block number k)) ≡ len = omega (arith, is, enhanced_len number k) in
+    rw size
+    (sym (packed (numbers (6 ∷ len ∷ number ∷ file_ticks k.time / 2 ^ 32 ∷ file_ticks k.time % 2 ^ 32 ∷ length k.bytes ∷ k.original ∷ [])) k.bytes (padding (length k.bytes)) (bytes32 Little len)))

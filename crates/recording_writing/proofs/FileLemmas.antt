@@ -16,10 +16,11 @@ use Rattle.recording.specs.HeldSpelling.{IsHeldBlock, HoldsInterfaces}
 use Rattle.recording.specs.Spelling.{SpelledBlock, order_by, block_bytes, value_by, BlockFits, blocks_bytes, blocks_list, IsBlocks, IsRecording}
 use Rattle.recording.proofs.BlockSpelling.{blocks_are_read}
 use Rattle.recording.proofs.HeldSpelling.{held_whole}
-use Rattle.recording_writing.specs.Blocks.{section_block, interface_block, number_of, is_new, packet_block, is_simple, is_too_long, blocks_for, links_after}
+use Rattle.recording_writing.specs.Blocks.{section_block, interface_block, number_of, is_new, packet_block, is_simple, is_too_long, blocks_for, links_after, put_of}
+use Rattle.recording_writing.specs.declared.writer.Put.TheVariants.{TooLong}
 use Rattle.recording_writing.specs.Files.{packets_blocks, links_of, file_blocks, file_of, packet_read, packets_read, items_read, IsPacket, AreLinkTypes}
 use Rattle.recording_writing.proofs.LinkLemmas.{links_by, number_of-le, number_at, once, most}
-use Rattle.recording_writing.proofs.BlockLemmas.{block_as, packet_fits, packet_held, interface_fits, interface_held, nanosecond_interface, described, packet_meaning}
+use Rattle.recording_writing.proofs.BlockLemmas.{block_as, packet_fits, packet_held, interface_fits, interface_held, nanosecond_interface, described, packet_meaning, told_long}
 
 -- ---- what holds of each block
 
@@ -29,18 +30,18 @@ all_append P (x ∷ xs) ys one other = (one.0, all_append P xs ys one.1 other)
 
 -- the blocks of a packet, if it is too long, and if its link type is new
 abbrev blocks_as : Bool → Bool → List ℕ → RecordValue → List SpelledBlock
-blocks_as long new links k = cond long [] (cond new (interface_block k.link ∷ packet_block links k ∷ []) (packet_block links k ∷ []))
+blocks_as long new links k = cond long [] (cond new (interface_block k.link ∷ []) [] ++ packet_block (number_of links k.link) k ∷ [])
 
-all_as : (P : SpelledBlock → Type 0) (long new : Bool) (links : List ℕ) (k : RecordValue) → P (interface_block k.link) → (long ≡ false → P (packet_block links k)) → AllByRecursion P (blocks_as long new links k)
+all_as : (P : SpelledBlock → Type 0) (long new : Bool) (links : List ℕ) (k : RecordValue) → P (interface_block k.link) → (long ≡ false → P (packet_block (number_of links k.link) k)) → AllByRecursion P (blocks_as long new links k)
 all_as P true new links k interface packet = tt
 all_as P false true links k interface packet = (interface, (packet refl, tt))
 all_as P false false links k interface packet = (packet refl, tt)
 
-all_blocks : (P : SpelledBlock → Type 0) → ((link : ℕ) → P (interface_block link)) → ((links : List ℕ) (k : RecordValue) → is_too_long links k ≡ false → P (packet_block links k))
+all_blocks : (P : SpelledBlock → Type 0) → ((link : ℕ) → P (interface_block link)) → ((number : ℕ) (k : RecordValue) → is_too_long number k ≡ false → P (packet_block number k))
     → (links : List ℕ) (ks : List RecordValue) → AllByRecursion P (packets_blocks links ks)
 all_blocks P interface packet links [] = tt
 all_blocks P interface packet links (k ∷ ks) =
-    all_append P _ _ (all_as P (is_too_long links k) (is_new links k.link) links k (interface k.link) (packet links k)) (all_blocks P interface packet (links_after links k) ks)
+    all_append P _ _ (all_as P (is_too_long (number_of links k.link) k) (is_new links k.link) links k (interface k.link) (packet (number_of links k.link) k)) (all_blocks P interface packet (links_after links k) ks)
 
 pub blocks_held : (links : List ℕ) (ks : List RecordValue) → AllByRecursion IsHeldBlock (packets_blocks links ks)
 blocks_held links ks = all_blocks IsHeldBlock interface_held packet_held links ks
@@ -73,24 +74,24 @@ step_as false is p number k r blocks others meant rest =
     let place = p + length (block_bytes Little (block_as false number k)) in
     ap (λ m. items_after m (blocks_list Little is place blocks None)) meant ∙ ap (λ (t : List Item). Ok r ∷ t) (rest place)
 
-packet_step : (links all : List ℕ) (p : ℕ) (k : RecordValue) (blocks : List SpelledBlock) (others : List Item) → IsPacket k → AreLinkTypes links → is_too_long links k ≡ false
+packet_step : (links all : List ℕ) (p : ℕ) (k : RecordValue) (blocks : List SpelledBlock) (others : List Item) → IsPacket k → AreLinkTypes links → is_too_long (number_of links k.link) k ≡ false
     → slice_get all (number_of links k.link) ≡ Some k.link → ((q : ℕ) → blocks_list Little (interfaces all) q blocks None ≡ others)
-    → blocks_list Little (interfaces all) p (packet_block links k ∷ blocks) None ≡ Ok (packet_read links k) ∷ others
+    → blocks_list Little (interfaces all) p (packet_block (number_of links k.link) k ∷ blocks) None ≡ Ok (packet_read (number_of links k.link) k) ∷ others
 packet_step links all p k blocks others fits are short at rest =
     let few : number_of links k.link < 2 ^ 32 = omega (arith, number_of-le links k.link, most links are) in
     let there : slice_get (interfaces all) (number_of links k.link) ≡ Some (nanosecond_interface k.link) =
     slice_get-map nanosecond_interface all (number_of links k.link) ∙ ap (option_map nanosecond_interface) at in
-    step_as (is_simple links k) (interfaces all) p (number_of links k.link) k (packet_read links k) blocks others (packet_meaning links (interfaces all) p k fits few short there) rest
+    step_as (is_simple (number_of links k.link) k) (interfaces all) p (number_of links k.link) k (packet_read (number_of links k.link) k) blocks others (packet_meaning (number_of links k.link) (interfaces all) p k fits few short there) rest
 
 -- what is written of a packet, behind which others are read
 for_step : (long new : Bool) (links : List ℕ) (p : ℕ) (k : RecordValue) (blocks : List SpelledBlock) (others : List RecordValue) → IsPacket k → AreLinkTypes links
-    → is_too_long links k ≡ long → is_new links k.link ≡ new
+    → is_too_long (number_of links k.link) k ≡ long → is_new links k.link ≡ new
     → ((q : ℕ) → blocks_list Little (interfaces (cond long links (links_by new links k.link))) q blocks None ≡ map (λ r. Ok r) others)
-    → blocks_list Little (interfaces links) p (blocks_as long new links k ++ blocks) None ≡ map (λ r. Ok r) (cond long [] (packet_read links k ∷ []) ++ others)
+    → blocks_list Little (interfaces links) p (blocks_as long new links k ++ blocks) None ≡ map (λ r. Ok r) (cond long [] (packet_read (number_of links k.link) k ∷ []) ++ others)
 for_step true new links p k blocks others fits are is_long is_new rest = rest p
 for_step false true links p k blocks others fits are is_long is_new rest =
     let place = p + length (block_bytes Little (interface_block k.link)) in
-    ap (λ is. blocks_list Little is place (packet_block links k ∷ blocks) None) (described links k.link fits.link)
+    ap (λ is. blocks_list Little is place (packet_block (number_of links k.link) k ∷ blocks) None) (described links k.link fits.link)
     ∙ packet_step links (links ++ k.link ∷ []) place k blocks (map (λ r. Ok r) others) fits are is_long (number_at true links k.link is_new) rest
 for_step false false links p k blocks others fits are is_long is_new rest =
     packet_step links links p k blocks (map (λ r. Ok r) others) fits are is_long (number_at false links k.link is_new) rest
@@ -99,10 +100,10 @@ packets_listed : (links : List ℕ) (ks : List RecordValue) → AllByRecursion I
     → (p : ℕ) → blocks_list Little (interfaces links) p (packets_blocks links ks) None ≡ map (λ r. Ok r) (packets_read links ks)
 packets_listed links [] fits are p = refl
 packets_listed links (k ∷ ks) fits are p =
-    for_step (is_too_long links k) (is_new links k.link) links p k (packets_blocks (links_after links k) ks) (packets_read (links_after links k) ks) fits.0 are refl refl
+    for_step (is_too_long (number_of links k.link) k) (is_new links k.link) links p k (packets_blocks (links_after links k) ks) (packets_read (links_after links k) ks) fits.0 are refl refl
     (packets_listed (links_after links k) ks fits.1 (once links k fits.0 are))
 
-no_link_types : AreLinkTypes []
+pub no_link_types : AreLinkTypes []
 unfolding IsDistinct
 no_link_types = record { fit = tt; apart = tt }
 
@@ -116,7 +117,7 @@ file_read ks fits = blocks_are_read (file_blocks ks) None (file_of ks) (file_spe
 
 interfaces_as : (long new simple : Bool) (links : List ℕ) (number : ℕ) (k : RecordValue) (blocks : List SpelledBlock) → length links ≤ interface_limit
     → length (cond long links (links_by new links k.link)) ≤ interface_limit → HoldsInterfaces (length (cond long links (links_by new links k.link))) blocks
-    → HoldsInterfaces (length links) (cond long [] (cond new (interface_block k.link ∷ block_as simple number k ∷ []) (block_as simple number k ∷ [])) ++ blocks)
+    → HoldsInterfaces (length links) (cond long [] (cond new (interface_block k.link ∷ []) [] ++ block_as simple number k ∷ []) ++ blocks)
 interfaces_as true new simple links number k blocks le le_after rest = rest
 interfaces_as false true true links number k blocks le le_after rest =
     let one : length (links ++ k.link ∷ []) ≡ length links + 1 = length-append links (k.link ∷ []) in
@@ -131,7 +132,7 @@ interfaces_held : (links : List ℕ) (ks : List RecordValue) → AllByRecursion 
 interfaces_held links [] fits are = tt
 interfaces_held links (k ∷ ks) fits are =
     let after = once links k fits.0 are in
-    interfaces_as (is_too_long links k) (is_new links k.link) (is_simple links k) links (number_of links k.link) k (packets_blocks (links_after links k) ks) (most links are) (most (links_after links k) after)
+    interfaces_as (is_too_long (number_of links k.link) k) (is_new links k.link) (is_simple (number_of links k.link) k) links (number_of links k.link) k (packets_blocks (links_after links k) ks) (most links are) (most (links_after links k) after)
     (interfaces_held (links_after links k) ks fits.1 after)
 
 pub file_held : (ks : List RecordValue) → AllByRecursion IsPacket ks → held_of (file_of ks) ≡ items_read ks
@@ -152,7 +153,7 @@ packet_little_as true number k = refl
 packet_little_as false number k = refl
 
 all_little : (links : List ℕ) (ks : List RecordValue) → AllByRecursion IsLittle (packets_blocks links ks)
-all_little links ks = all_blocks IsLittle (λ link. refl) (λ links k short. packet_little_as (is_simple links k) (number_of links k.link) k) links ks
+all_little links ks = all_blocks IsLittle (λ link. refl) (λ number k short. packet_little_as (is_simple number k) number k) links ks
 
 little_step : (order : ByteOrder) (front : List ℕ) (xs ys : List SpelledBlock) → order ≡ Little → blocks_bytes Little (xs ++ ys) ≡ blocks_bytes Little xs ++ blocks_bytes Little ys
     → front ++ blocks_bytes order (xs ++ ys) ≡ (front ++ blocks_bytes order xs) ++ blocks_bytes Little ys
@@ -184,6 +185,7 @@ file_grows ks k =
 
 -- ---- what is too long
 
-pub nothing_of : (links : List ℕ) (k : RecordValue) → is_too_long links k ≡ true → (blocks_for links k ≡ []) × (links_after links k ≡ links)
-nothing_of links k long =
+pub nothing_of : (links : List ℕ) (k : RecordValue) → put_of (number_of links k.link) k ≡ TooLong → (blocks_for links k ≡ []) × (links_after links k ≡ links)
+nothing_of links k told =
+    let long = told_long (number_of links k.link) k told in
     (ap (λ (l : Bool). blocks_as l (is_new links k.link) links k) long, ap (λ (l : Bool). cond l links (links_by (is_new links k.link) links k.link)) long)

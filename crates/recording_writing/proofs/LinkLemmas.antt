@@ -80,7 +80,7 @@ after_step false true links link is fits are = pushed links link fits are (eqb-t
 after_step false false links link is fits are = are
 
 pub once : (links : List ℕ) (k : RecordValue) → IsPacket k → AreLinkTypes links → AreLinkTypes (links_after links k)
-once links k fits are = after_step (is_too_long links k) (is_new links k.link) links k.link refl fits.link are
+once links k fits are = after_step (is_too_long (number_of links k.link) k) (is_new links k.link) links k.link refl fits.link are
 
 -- ---- how many
 
@@ -97,6 +97,6 @@ most links are = length-le_from_distinct_below links (2 ^ 16) are.apart (λ q an
 
 -- ---- after a packet that is not too long
 
-pub has_after : (links : List ℕ) (k : RecordValue) → is_too_long links k ≡ false → slice_get (links_after links k) (number_of links k.link) ≡ Some k.link
+pub has_after : (links : List ℕ) (k : RecordValue) → is_too_long (number_of links k.link) k ≡ false → slice_get (links_after links k) (number_of links k.link) ≡ Some k.link
 has_after links k short =
     ap (λ (long : Bool). slice_get (cond long links (links_by (is_new links k.link) links k.link)) (number_of links k.link)) short ∙ has_interface links k.link

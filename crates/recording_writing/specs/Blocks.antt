@@ -1,10 +1,12 @@
 -- The blocks in which packets are written: pcapng, the lowest byte of each number first.
-use Rattle.std.specs.Prelude.{ℕ, suc, ◌+◌, ◌-◌, ◌*◌, ◌/◌, ◌%◌, ◌^◌, nat_lt, ◌==◌, ◌&&◌, Bool, false, if◌then◌else◌, List, [], ◌∷◌, ◌++◌, length, replicate, Option, Some, None, is_none}
+use Rattle.std.specs.Prelude.{ℕ, suc, ◌+◌, ◌-◌, ◌*◌, ◌/◌, ◌%◌, ◌^◌, nat_lt, ◌==◌, ◌&&◌, ◌||◌, Bool, false, if◌then◌else◌, List, [], ◌∷◌, ◌++◌, length, replicate, Option, Some, None, is_none}
 use Rattle.std.specs.List.{flat_map}
 use Rattle.recording.specs.declared.number.ByteOrder.TheVariants.{Little}
 use Rattle.recording.specs.declared.time.Time.{Time}
 use Rattle.recording.specs.Captured.{RecordValue}
 use Rattle.recording.specs.Held.{held_limit}
+use Rattle.recording_writing.specs.declared.writer.Put.{Put}
+use Rattle.recording_writing.specs.declared.writer.Put.TheVariants.{Exact, Untimed, TooLong}
 use Rattle.recording.specs.Spelling.{SpelledBlock, head, plain, body_by, bytes32}
 
 -- numbers of 32 bits, one after the other
@@ -54,9 +56,10 @@ file_ticks (Some t) = if nat_lt (ticks t) (2 ^ 64) then ticks t else 0
 
 -- ---- a packet
 
--- it needs no time: it has none, and it is of the first interface, and was not cut, as a simple packet is
-abbrev pub is_simple : List ℕ → RecordValue → Bool
-is_simple links k = is_none k.time && (number_of links k.link == 0 && k.original == length k.bytes)
+-- it needs no time, as a packet of the interface with this number: it has none, and it is of the first interface, and
+-- was not cut, as a simple packet is
+abbrev pub is_simple : ℕ → RecordValue → Bool
+is_simple number k = is_none k.time && (number == 0 && k.original == length k.bytes)
 
 -- the zeros that fill so many bytes up to whole groups of 4
 abbrev pub padding : ℕ → List ℕ
@@ -73,23 +76,33 @@ enhanced_block number k =
     plain 6 (numbers (number ∷ file_ticks k.time / 2 ^ 32 ∷ file_ticks k.time % 2 ^ 32 ∷ length k.bytes ∷ k.original ∷ [])
     ++ (k.bytes ++ padding (length k.bytes)))
 
--- the block of a packet
-abbrev pub packet_block : List ℕ → RecordValue → SpelledBlock
-packet_block links k = if is_simple links k then simple_block k else enhanced_block (number_of links k.link) k
+-- the block of a packet of the interface with this number
+abbrev pub packet_block : ℕ → RecordValue → SpelledBlock
+packet_block number k = if is_simple number k then simple_block k else enhanced_block number k
 
 -- its block would have more bytes than a reader holds
-abbrev pub is_too_long : List ℕ → RecordValue → Bool
-is_too_long links k = nat_lt held_limit (12 + length (body_by (packet_block links k)))
+abbrev pub is_too_long : ℕ → RecordValue → Bool
+is_too_long number k = nat_lt held_limit (12 + length (body_by (packet_block number k)))
 
--- ---- what is written of a packet
+-- what is told of it: left out, written as it is, or with the time 0, since the file cannot say its time
+abbrev pub put_of : ℕ → RecordValue → Put
+put_of number k =
+    if is_too_long number k then TooLong
+    else (if is_simple number k || has_ticks k.time then Exact
+    else Untimed)
 
--- the description of its interface, where there is none yet, and its block; nothing of one that is too long
+-- ---- what is written of a packet, where these link types have interfaces so far
+
+-- the description of the interface of a link type that is new
+abbrev pub description : List ℕ → ℕ → List SpelledBlock
+description links link = if is_new links link then interface_block link ∷ [] else []
+
+-- that of its interface, and its block; nothing of one that is too long
 abbrev pub blocks_for : List ℕ → RecordValue → List SpelledBlock
 blocks_for links k =
-    if is_too_long links k then []
-    else (if is_new links k.link then interface_block k.link ∷ packet_block links k ∷ []
-    else packet_block links k ∷ [])
+    if is_too_long (number_of links k.link) k then []
+    else description links k.link ++ packet_block (number_of links k.link) k ∷ []
 
 -- the link types with an interface after it, in the order of their descriptions
 abbrev pub links_after : List ℕ → RecordValue → List ℕ
-links_after links k = if is_too_long links k then links else links_with links k.link
+links_after links k = if is_too_long (number_of links k.link) k then links else links_with links k.link

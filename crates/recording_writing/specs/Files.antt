@@ -31,18 +31,19 @@ file_of ks = blocks_bytes Big (file_blocks ks)
 -- ---- what is read
 
 -- the time that is read: none of a simple packet
-abbrev pub time_read : List ℕ → RecordValue → Option Time
-time_read links k = if is_simple links k then None else Some (time_of (file_ticks k.time))
+abbrev pub time_read : ℕ → RecordValue → Option Time
+time_read number k = if is_simple number k then None else Some (time_of (file_ticks k.time))
 
--- the packet as it is read: its interface has the number of its link type, and its time is what the file says
-abbrev pub packet_read : List ℕ → RecordValue → RecordValue
-packet_read links k = record k { time = time_read links k; interface = number_of links k.link }
+-- the packet as it is read: with its interface, and the time that the file says
+abbrev pub packet_read : ℕ → RecordValue → RecordValue
+packet_read number k = record k { time = time_read number k; interface = number }
 
--- the packets as they are read, without those that are too long
+-- the packets as they are read, without those that are too long, each of the interface of its link type
 abbrev pub packets_read : List ℕ → List RecordValue → List RecordValue
 packets_read links [] = []
 packets_read links (k ∷ ks) =
-    (if is_too_long links k then [] else packet_read links k ∷ []) ++ packets_read (links_after links k) ks
+    (if is_too_long (number_of links k.link) k then [] else packet_read (number_of links k.link) k ∷ [])
+    ++ packets_read (links_after links k) ks
 
 -- the items of their recording
 abbrev pub items_read : List RecordValue → List Item

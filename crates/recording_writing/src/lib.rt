@@ -9,4 +9,8 @@
 //! not of the program.
 #![tactic(auto)]
 
+mod block;
 pub mod laws;
+mod writer;
+
+pub use writer::{PacketWriter, Put};
