@@ -1,5 +1,5 @@
 -- What the blocks of packets say.
-use Rattle.std.proofs.Common.{◌≡◌, ℕ, ◌+◌, ◌-◌, ◌*◌, ◌/◌, ◌%◌, ◌^◌, ◌<◌, ◌≤◌, min, Bool, true, false, cond, ltb, eqb, ◌&&◌, ◌||◌, List, [], ◌∷◌, ◌++◌, length, map, take, drop, Option, Some, None, Ok, refl, sym, ap, subst, ◌∙◌, arith, append_assoc, lit<, lit≤}
+use Rattle.std.proofs.Common.{◌≡◌, ℕ, ◌+◌, ◌-◌, ◌*◌, ◌/◌, ◌%◌, ◌^◌, ◌<◌, ◌≤◌, min, Bool, true, false, cond, ltb, eqb, ◌&&◌, ◌||◌, List, [], ◌∷◌, ◌++◌, length, map, take, drop, Option, Some, None, Ok, refl, sym, ap, subst, ◌∙◌, arith, lit<, lit≤}
 use Rattle.std.specs.Prelude.{slice_get, is_none, IfSome}
 use Rattle.std.proofs.lemmas.Bool.{le-ltb, lt-ltb, ltb-false, ltb-true, eqb-true}
 use Rattle.std.proofs.lemmas.List.{take_at, length-append, length-replicate, map-append}
@@ -14,8 +14,8 @@ use Rattle.recording.specs.Interfaces.{option_within, interface_in}
 use Rattle.recording.specs.Sections.{meaning_of, interfaces_after}
 use Rattle.recording.specs.Held.{held_limit}
 use Rattle.recording.specs.HeldSpelling.{IsHeldBlock}
-use Rattle.recording.specs.Spelling.{SpelledBlock, block_bytes, body_by, value_by, bytes32, BlockFits}
-use Rattle.recording_writing.specs.Blocks.{numbers, interface_block, ticks, has_ticks, file_ticks, is_simple, padding, simple_block, enhanced_block, packet_block, is_too_long, put_of}
+use Rattle.recording.specs.Spelling.{SpelledBlock, body_by, value_by, bytes32, BlockFits}
+use Rattle.recording_writing.specs.Blocks.{interface_block, ticks, has_ticks, file_ticks, is_simple, padding, simple_block, enhanced_block, packet_block, is_too_long, put_of}
 use Rattle.recording_writing.specs.declared.writer.Put.TheVariants.{Exact, Untimed, TooLong}
 use Rattle.recording_writing.specs.Files.{IsPacket, packet_read, time_read}
 
@@ -251,21 +251,3 @@ block_simple number k is = ap (λ (simple : Bool). block_as simple number k) is
 
 pub block_enhanced : (number : ℕ) (k : RecordValue) → is_simple number k ≡ false → packet_block number k ≡ enhanced_block number k
 block_enhanced number k is = ap (λ (simple : Bool). block_as simple number k) is
-
--- what it is written as: the numbers before the packet, its bytes, what fills them up, and the length of the block
-packed : (front : List ℕ) (bytes zeros back : List ℕ) → front ++ ((bytes ++ zeros) ++ back) ≡ front ++ (bytes ++ (zeros ++ back))
-packed front bytes zeros back = ap (λ (t : List ℕ). front ++ t) (append_assoc bytes zeros back)
-
-pub simple_packed : (k : RecordValue) (len : ℕ) → len ≡ 16 + length k.bytes + (4 - length k.bytes % 4) % 4
-    → numbers (3 ∷ len ∷ k.original ∷ []) ++ (k.bytes ++ (padding (length k.bytes) ++ numbers (len ∷ []))) ≡ block_bytes Little (simple_block k)
-simple_packed k len is =
-    let size : 12 + length (body_by (simple_block k)) ≡ len = omega (arith, is, simple_len k) in
-    rw size (sym (packed (numbers (3 ∷ len ∷ k.original ∷ [])) k.bytes (padding (length k.bytes)) (bytes32 Little len)))
-
-pub enhanced_packed : (number : ℕ) (k : RecordValue) (len : ℕ) → len ≡ 32 + length k.bytes + (4 - length k.bytes % 4) % 4
-    → numbers (6 ∷ len ∷ number ∷ file_ticks k.time / 2 ^ 32 ∷ file_ticks k.time % 2 ^ 32 ∷ length k.bytes ∷ k.original ∷ []) ++ (k.bytes ++ (padding (length k.bytes) ++ numbers (len ∷ [])))
-    ≡ block_bytes Little (enhanced_block number k)
-enhanced_packed number k len is =
-    let size : 12 + length (body_by (enhanced_block number k)) ≡ len = omega (arith, is, enhanced_len number k) in
-    rw size
-    (sym (packed (numbers (6 ∷ len ∷ number ∷ file_ticks k.time / 2 ^ 32 ∷ file_ticks k.time % 2 ^ 32 ∷ length k.bytes ∷ k.original ∷ [])) k.bytes (padding (length k.bytes)) (bytes32 Little len)))
