@@ -165,21 +165,21 @@ blocks_append : (xs ys : List SpelledBlock) → AllByRecursion IsLittle xs → b
 blocks_append [] ys little = refl
 blocks_append (x ∷ xs) ys little = little_step (order_by Little x) (block_bytes Little x) xs ys little.0 (blocks_append xs ys little.1)
 
-packets_grow : (links : List ℕ) (ks : List RecordValue) (k : RecordValue) → packets_blocks links (ks ++ k ∷ []) ≡ packets_blocks links ks ++ blocks_for (links_of links ks) k
-packets_grow links [] k = append-nil (blocks_for links k)
-packets_grow links (x ∷ ks) k =
-    ap (λ (t : List SpelledBlock). blocks_for links x ++ t) (packets_grow (links_after links x) ks k)
-    ∙ sym (append_assoc (blocks_for links x) (packets_blocks (links_after links x) ks) (blocks_for (links_of (links_after links x) ks) k))
+packets_grow : (links : List ℕ) (ks more : List RecordValue) → packets_blocks links (ks ++ more) ≡ packets_blocks links ks ++ packets_blocks (links_of links ks) more
+packets_grow links [] more = refl
+packets_grow links (x ∷ ks) more =
+    ap (λ (t : List SpelledBlock). blocks_for links x ++ t) (packets_grow (links_after links x) ks more)
+    ∙ sym (append_assoc (blocks_for links x) (packets_blocks (links_after links x) ks) (packets_blocks (links_of (links_after links x) ks) more))
 
-pub links_grow : (links : List ℕ) (ks : List RecordValue) (k : RecordValue) → links_of links (ks ++ k ∷ []) ≡ links_after (links_of links ks) k
-links_grow links [] k = refl
-links_grow links (x ∷ ks) k = links_grow (links_after links x) ks k
+pub links_grow : (links : List ℕ) (ks more : List RecordValue) → links_of links (ks ++ more) ≡ links_of (links_of links ks) more
+links_grow links [] more = refl
+links_grow links (x ∷ ks) more = links_grow (links_after links x) ks more
 
-pub file_grows : (ks : List RecordValue) (k : RecordValue) → file_of (ks ++ k ∷ []) ≡ file_of ks ++ blocks_bytes Little (blocks_for (links_of [] ks) k)
-file_grows ks k =
+pub file_grows : (ks more : List RecordValue) → file_of (ks ++ more) ≡ file_of ks ++ blocks_bytes Little (packets_blocks (links_of [] ks) more)
+file_grows ks more =
     let head = block_bytes Big section_block in
-    let blocks = blocks_for (links_of [] ks) k in
-    ap (λ (t : List SpelledBlock). head ++ blocks_bytes Little t) (packets_grow [] ks k)
+    let blocks = packets_blocks (links_of [] ks) more in
+    ap (λ (t : List SpelledBlock). head ++ blocks_bytes Little t) (packets_grow [] ks more)
     ∙ ap (λ (t : List ℕ). head ++ t) (blocks_append (packets_blocks [] ks) blocks (all_little [] ks))
     ∙ sym (append_assoc head (blocks_bytes Little (packets_blocks [] ks)) (blocks_bytes Little blocks))
 

@@ -75,11 +75,14 @@ pub fn long_packets_are_left_out()
         → is_too_long number k ≡ true }
 {}
 
-/// A file begins with the head of its section, and grows by the blocks of each packet.
+/// A file begins with the head of its section, and grows by the blocks of each packet, whatever packets
+/// come behind it.
 pub fn files_grow()
     ensures begin { file_of [] ≡ block_bytes Big section_block }
-    ensures grow { (ks : List RecordValue) (k : RecordValue) → file_of (ks ++ k ∷ [])
-        ≡ file_of ks ++ blocks_bytes Little (blocks_for (links_of [] ks) k) }
-    ensures links { (ks : List RecordValue) (k : RecordValue)
-        → links_of [] (ks ++ k ∷ []) ≡ links_after (links_of [] ks) k }
+    ensures grow { (ks more : List RecordValue) → file_of (ks ++ more)
+        ≡ file_of ks ++ blocks_bytes Little (packets_blocks (links_of [] ks) more) }
+    ensures links { (ks more : List RecordValue)
+        → links_of [] (ks ++ more) ≡ links_of (links_of [] ks) more }
+    ensures one { (links : List ℕ) (k : RecordValue)
+        → packets_blocks links (k ∷ []) ≡ blocks_for links k }
 {}
