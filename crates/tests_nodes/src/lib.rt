@@ -12,6 +12,7 @@
 //! - `of_someip_world_setup`, `of_someip_world_schedule`: what is read of setups and of schedules; those that are not quite
 //!   right are rows of the sweep `texts`, as are types files;
 //! - `of_someip_world`: short runs, and runs over both bodies of reassembly;
+//! - `of_recording_writing`: packets that are written;
 //! - `of_someipctl_show`: captures and payloads;
 //! - `of_someipctl_recordings`: what is left out of a recording, and recordings whose messages are put together;
 //! - `of_someipctl_cli`: what words come to, the texts and statuses of failures, and the laws of the program.
@@ -20,6 +21,8 @@
 //! bytes a call; and `showing`: commands without what they add.
 #![tactic(auto)]
 
+#[cfg(test)]
+mod of_recording_writing;
 #[cfg(test)]
 mod of_someip_c_node;
 #[cfg(test)]

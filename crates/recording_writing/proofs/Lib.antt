@@ -1,0 +1,4 @@
+pub mod LinkLemmas
+pub mod BlockLemmas
+pub mod FileLemmas
+pub mod WritingLemmas
