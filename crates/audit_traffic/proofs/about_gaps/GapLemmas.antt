@@ -1,8 +1,7 @@
 -- How many sessions wait, and which of them is lost first.
-use Rattle.std.proofs.Common.{◌≡◌, ℕ, zero, suc, ◌+◌, ◌<◌, ◌≤◌, nat_le, nat_lt, Bool, true, false, cond, not, Option, None, Some, is_some, Result, Ok, Err, refl, sym, ap, ◌∙◌, arith}
+use Rattle.std.proofs.Common.{◌≡◌, ℕ, zero, suc, ◌+◌, ◌<◌, ◌≤◌, Bool, true, false, cond, None, Some, is_some, Result, Ok, Err, refl, sym, ap, ◌∙◌, arith}
 use Rattle.std.specs.Result.{OnErr, OnOk}
 use Rattle.std.specs.Option.{option_and_then}
-use Rattle.std.proofs.lemmas.Bool.{le-leb, leb-true, ltb-true}
 use Rattle.std.proofs.lemmas.Bool.Decides.{nat_tests}
 use Rattle.std.specs.FinMap as finite
 use Rattle.someip_tables.specs.declared.hashed.due.Due.{Due}
@@ -10,9 +9,8 @@ use Rattle.someip_tables.specs.hashed.Dues.{IsFirstDue}
 use Rattle.someip_tables.proofs.about_hashed.FirstDues.{not_before}
 use Rattle.audit_traffic.specs.declared.events.flow.EventFlow.{EventFlow}
 use Rattle.audit_traffic.specs.declared.gaps.awaited.Awaited.{Awaited}
-use Rattle.audit_traffic.specs.declared.gaps.gap.Gap.{Gap}
 use Rattle.audit_traffic.specs.declared.gaps.key.MissingEvent.{MissingEvent}
-use Rattle.audit_traffic.specs.gaps.GapRules.{is_lost_by, session_after, waits_until}
+use Rattle.audit_traffic.specs.gaps.GapRules.{session_after, waits_until}
 use Rattle.audit_traffic.specs.gaps.GapTables.{FallsDue, IsBegunGap, Waiting, or_waits, with_missing}
 use Rattle.audit_traffic.specs.gaps.MissingKeys.{missing_cmp, missing_of}
 use Rattle.audit_traffic.specs.gaps.MissingOrder.{missing_total}

@@ -1,19 +1,15 @@
 -- What a book holds and tells of the steps so far.
-use Rattle.std.proofs.Common.{◌≡◌, ℕ, ◌==◌, Bool, true, false, if◌then◌else◌, not, List, [], ◌∷◌, Option, None, Some, is_some, refl, sym, ap, ap₂, ◌∙◌}
+use Rattle.std.proofs.Common.{◌≡◌, ℕ, ◌==◌, Bool, true, false, if◌then◌else◌, not, List, [], ◌∷◌, Option, None, Some, is_some, refl, sym, ap, ◌∙◌}
 use Rattle.std.specs.FinMap as finite
 use Rattle.someip_tables.proofs.Entries.{get-retain}
 use Rattle.someip_tables.specs.hashed.Rooms.{told_when_full}
 use Rattle.someip_tables.specs.declared.hashed.origin.Numbers.{Numbers}
 use Rattle.audit_traffic.specs.declared.events.finding.Finding.{Finding as EventShown}
 use Rattle.audit_traffic.specs.declared.events.finding.Finding.TheVariants as shown
-use Rattle.audit_traffic.specs.declared.events.flow.EventFlow.{EventFlow}
 use Rattle.audit_traffic.specs.declared.events.notification.Notification.{Notification}
-use Rattle.audit_traffic.specs.declared.gaps.awaited.Awaited.{Awaited}
 use Rattle.audit_traffic.specs.declared.gaps.gap.Gap.{Gap}
 use Rattle.audit_traffic.specs.declared.gaps.finding.Finding.TheVariants as gap
 use Rattle.audit_traffic.specs.declared.gaps.key.MissingEvent.{MissingEvent}
-use Rattle.audit_traffic.specs.declared.sequence.counting.Counting.{Counting}
-use Rattle.audit_traffic.specs.declared.sequence.finding.Finding.{Finding}
 use Rattle.audit_traffic.specs.declared.sequence.finding.Finding.TheVariants.{Lost}
 use Rattle.audit_traffic.specs.declared.sequence.sequence_book.SequenceRules.{SequenceRules}
 use Rattle.audit_traffic.specs.events.EventHistories as flows
@@ -25,7 +21,7 @@ use Rattle.audit_traffic.specs.gaps.GapTables.{Gaps, after_gap, has_room, is_wid
 use Rattle.audit_traffic.specs.gaps.MissingKeys.{missing_cmp, missing_of}
 use Rattle.audit_traffic.specs.gaps.MissingOrder.{exact_missing, missing_total}
 use Rattle.audit_traffic.specs.sequence.CountedFlows.{counted, counted_event, counted_service}
-use Rattle.audit_traffic.specs.sequence.Sequences.{Sequence, gap_of, gaps_after, gaps_without, of_gap, told_behind, told_by, told_of}
+use Rattle.audit_traffic.specs.sequence.Sequences.{Sequence, gap_of, gaps_after, gaps_without, of_gap, told_by, told_of}
 use Rattle.audit_traffic.specs.sequence.SequenceHistories.{BeganAgain, Came, Changed, Shown, Step, Withdrawn, after_shown, after_step, book_after, book_of, flows_shown, missing_in, of_flows, told_in, told_with, unless_it_came, without_lost}
 use Rattle.audit_traffic.proofs.about_events.HistoryLemmas.{full_noted, not_before, told as told_of_flow}
 use Rattle.audit_traffic.proofs.about_sequence.StepLemmas.{after_full, after_time, get-after}

@@ -1,8 +1,6 @@
 -- Events of one server to two clients, a millisecond apart or more.
-use Rattle.std.specs.Prelude.{ℕ, List, [], ◌∷◌, Option}
-use Rattle.std.specs.declared.net.ipv4_addr.Ipv4Addr.{Ipv4Addr}
+use Rattle.std.specs.Prelude.{ℕ, List, Option}
 use Rattle.someip_tables.specs.declared.hashed.origin.Numbers.{Numbers}
-use Rattle.audit_traffic.specs.declared.events.notification.Notification.{Notification}
 use Rattle.audit_traffic.specs.declared.gaps.key.MissingEvent.{MissingEvent}
 use Rattle.audit_traffic.specs.declared.sequence.counting.Counting.TheVariants.{ByEvent, BySender}
 use Rattle.audit_traffic.specs.declared.sequence.finding.Finding.{Finding}

@@ -1,7 +1,6 @@
 -- What a recording showed so far of the sessions of events, without a table. A list of steps has the newest first.
-use Rattle.std.specs.Prelude.{ℕ, zero, suc, ◌==◌, Bool, true, false, not, ◌||◌, if◌then◌else◌, List, [], ◌∷◌, map, Option, None, Some, is_some}
+use Rattle.std.specs.Prelude.{ℕ, zero, suc, ◌==◌, Bool, false, not, ◌||◌, if◌then◌else◌, List, [], ◌∷◌, Option, None, Some, is_some}
 use Rattle.std.specs.Ordering.{eq_by_cmp}
-use Rattle.std.specs.FinMap as finite
 use Rattle.std.specs.declared.net.ipv4_addr.Ipv4Addr.{Ipv4Addr}
 use Rattle.someip_tables.specs.Retained.{retain}
 use Rattle.someip_tables.specs.declared.hashed.origin.Numbers.{Numbers}
@@ -14,7 +13,7 @@ use Rattle.audit_traffic.specs.declared.gaps.gap.Gap.{Gap}
 use Rattle.audit_traffic.specs.declared.gaps.key.MissingEvent.{MissingEvent}
 use Rattle.audit_traffic.specs.declared.sequence.counting.Counting.{Counting}
 use Rattle.audit_traffic.specs.declared.sequence.finding.Finding.{Finding}
-use Rattle.audit_traffic.specs.declared.sequence.finding.Finding.TheVariants.{Lost, Overtaken, Repeated}
+use Rattle.audit_traffic.specs.declared.sequence.finding.Finding.TheVariants.{Lost, Repeated}
 use Rattle.audit_traffic.specs.declared.sequence.sequence_book.SequenceRules.{SequenceRules}
 use Rattle.audit_traffic.specs.events.EventHistories as flows
 use Rattle.audit_traffic.specs.events.EventHistories.{shown_after}
