@@ -1,7 +1,7 @@
 -- The kinds of findings, as the summary of an audit names them.
 use Rattle.std.specs.Prelude.{ℕ, ◌==◌, if◌then◌else◌, List, [], ◌∷◌, map, codes}
 use Rattle.someipctl_recordings.specs.declared.audit.kind.Kind.{Kind}
-use Rattle.someipctl_recordings.specs.declared.audit.kind.Kind.TheVariants.{Malformed, BadRun, NoEndpoint, Reboot, SdSession, Unanswered, Late, Error, Unasked, Repeated, KeyReused, EventRepeated, EventGap, EventUnsubscribed, Segments, SegmentsMissing, OfferExpired, OfferMoved, Nack, SubscribeUnanswered, Full}
+use Rattle.someipctl_recordings.specs.declared.audit.kind.Kind.TheVariants.{Malformed, BadRun, NoEndpoint, Reboot, SdSession, Unanswered, Late, Error, Unasked, Repeated, KeyReused, EventRepeated, EventGap, EventUnsubscribed, Segments, SegmentsMissing, OfferExpired, OfferMoved, Nack, SubscribeUnanswered, UnaskedAck, UnaskedNack, SdOvertaken, Full}
 
 -- the words of a kind
 abbrev pub kind_words : Kind → List ℕ
@@ -25,6 +25,9 @@ kind_words OfferExpired = codes "offer expired"
 kind_words OfferMoved = codes "offer moved"
 kind_words Nack = codes "nack"
 kind_words SubscribeUnanswered = codes "subscribe unanswered"
+kind_words UnaskedAck = codes "unasked ack"
+kind_words UnaskedNack = codes "unasked nack"
+kind_words SdOvertaken = codes "sd overtaken"
 kind_words Full = codes "full"
 
 -- its name in an object: its words, with `-` between them
@@ -35,7 +38,8 @@ kind_name kind = map (λ b. if b == 0x20 then 0x2D else b) (kind_words kind)
 unfoldable pub all_kinds : List Kind
 all_kinds =
     Malformed ∷ BadRun ∷ NoEndpoint ∷ Reboot ∷ SdSession ∷ Unanswered ∷ Late ∷ Error ∷ Unasked ∷ Repeated ∷ KeyReused ∷ EventRepeated ∷ EventGap
-    ∷ EventUnsubscribed ∷ Segments ∷ SegmentsMissing ∷ OfferExpired ∷ OfferMoved ∷ Nack ∷ SubscribeUnanswered ∷ Full ∷ []
+    ∷ EventUnsubscribed ∷ Segments ∷ SegmentsMissing ∷ OfferExpired ∷ OfferMoved ∷ Nack ∷ SubscribeUnanswered
+    ∷ UnaskedAck ∷ UnaskedNack ∷ SdOvertaken ∷ Full ∷ []
 
 -- the number of a kind in that order, by which kinds are told apart
 abbrev pub kind_number : Kind → ℕ
@@ -59,4 +63,7 @@ kind_number OfferExpired = 16
 kind_number OfferMoved = 17
 kind_number Nack = 18
 kind_number SubscribeUnanswered = 19
-kind_number Full = 20
+kind_number UnaskedAck = 20
+kind_number UnaskedNack = 21
+kind_number SdOvertaken = 22
+kind_number Full = 23

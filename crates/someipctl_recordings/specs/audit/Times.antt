@@ -16,6 +16,7 @@ settle_in = number_or 10000 0 4294967295
 -- the texts say these settings; a book holds 65536 keys, and segments are put together as `recording --whole` does
 pub record SaysRules (answer settle : Option (List ℕ)) (rules : AuditRules) : Type 0 where
   pub answer_is : answer_in answer ≡ Some rules.answer_ms
+  pub overtake_is : rules.overtake_ms ≡ 100
   pub settle_is : settle_in settle ≡ Some rules.settle_ms
   pub limit_is : rules.limit ≡ 65536
   pub segments_are : rules.segments ≡ record { slots = 16; limit = 1048576; timeout_ms = 5000 }

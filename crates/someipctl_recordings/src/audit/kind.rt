@@ -45,12 +45,18 @@ pub enum Kind {
     Nack,
     /// A Subscribe had no answer in time.
     SubscribeUnanswered,
+    /// An Ack came that no Subscribe was owed.
+    UnaskedAck,
+    /// A Nack came that no Subscribe was owed.
+    UnaskedNack,
+    /// A message of Service Discovery was overtaken by the last.
+    SdOvertaken,
     /// A table is full.
     Full,
 }
 
 /// How many kinds there are.
-pub(crate) const KIND_COUNT: usize = 21;
+pub(crate) const KIND_COUNT: usize = 24;
 
 /// All kinds, in the order of the summary.
 #[tactic(auto, unfolding(crate::specs::audit::Kinds::all_kinds))]
@@ -78,6 +84,9 @@ pub(crate) fn kinds() -> [Kind; KIND_COUNT]
         Kind::OfferMoved,
         Kind::Nack,
         Kind::SubscribeUnanswered,
+        Kind::UnaskedAck,
+        Kind::UnaskedNack,
+        Kind::SdOvertaken,
         Kind::Full,
     ]
 }
@@ -108,6 +117,9 @@ impl Kind {
             Kind::OfferMoved => "offer moved",
             Kind::Nack => "nack",
             Kind::SubscribeUnanswered => "subscribe unanswered",
+            Kind::UnaskedAck => "unasked ack",
+            Kind::UnaskedNack => "unasked nack",
+            Kind::SdOvertaken => "sd overtaken",
             Kind::Full => "full",
         }
     }
@@ -137,6 +149,9 @@ impl Kind {
             Kind::OfferMoved => "offer-moved",
             Kind::Nack => "nack",
             Kind::SubscribeUnanswered => "subscribe-unanswered",
+            Kind::UnaskedAck => "unasked-ack",
+            Kind::UnaskedNack => "unasked-nack",
+            Kind::SdOvertaken => "sd-overtaken",
             Kind::Full => "full",
         }
     }

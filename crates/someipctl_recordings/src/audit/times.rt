@@ -20,7 +20,8 @@ pub enum TimesError {
 }
 
 /// The settings of an audit whose times texts say, in milliseconds: decimal numbers without leading zeros.
-/// Without a text an answer may take 2000, and for 10000 no event without a subscription is told. A book holds
+/// Without a text an answer may take 2000, and for 10000 no event without a subscription is told. A message may be
+/// overtaken by one that comes at most 100 before it. A book holds
 /// at most 65536 keys; 16 messages may have come in part, each with 1048576 bytes at most, and for 5000
 /// milliseconds after its last segment.
 pub fn rules_in(answer: Option<&str>, settle: Option<&str>) -> Result<AuditRules, TimesError>
@@ -36,6 +37,7 @@ pub fn rules_in(answer: Option<&str>, settle: Option<&str>) -> Result<AuditRules
     Ok(AuditRules {
         limit: 65536,
         answer_ms,
+        overtake_ms: 100,
         settle_ms,
         segments: SegmentRules {
             slots: 16,
