@@ -11,9 +11,10 @@ import wire
 from parts import TIMEOUT, refusal, whole_payload
 from seen import ACK, OFFER, SUBSCRIBE, Datagram, Seen, datagrams_of, looked_at, seen_in
 
-KINDS = ("malformed", "bad run", "no endpoint", "reboot", "sd session", "unanswered", "late", "error", "unasked",
-         "repeated", "key reused", "event repeated", "event overtaken", "event gap", "event unsubscribed", "segments",
-         "segments missing", "offer expired", "offer moved", "nack", "subscribe unanswered", "full")
+KINDS = ("malformed", "bad run", "no endpoint", "reboot", "sd session", "sd overtaken", "unanswered", "late", "error",
+         "unasked", "repeated", "key reused", "event repeated", "event overtaken", "event gap", "event unsubscribed",
+         "segments", "segments missing", "offer expired", "offer moved", "nack", "subscribe unanswered", "unasked ack",
+         "unasked nack", "full")
 CALLS, SEGMENTS, OFFERS, SUBSCRIBES, GAPS = range(5)
 MOST_BEHIND = 64
 FIRST_GROUP = wire.address("224.0.0.0")
@@ -78,6 +79,7 @@ class Audit:
         self.seen, self.messages = seen_in(self.looked)
         self.findings = []
         self.reboots = []
+        self.overtaken = set()
         self.find_all()
 
     def find_all(self):
@@ -159,12 +161,17 @@ class Audit:
     def judge_session(self, before, seen):
         """Judges a message by those of its sender before it, since that began anew last."""
         began = max((reboot.place for reboot in self.reboots if reboot.sender == seen.sender), default=-1)
-        pair = [last for last in before if last.place >= began and last.receiver == seen.receiver]
+        pair = [last for last in before
+                if last.place >= began and last.receiver == seen.receiver and last.place not in self.overtaken]
         if not pair:
             return
         (last, flagged), (session, flag) = pair[-1].value, seen.value
         following = (last + 1, flagged) if last < 0xFFFF else (1, 0)
-        if flag and (not flagged or session <= last):
+        is_soon = seen.moment <= pair[-1].moment + self.rules.overtake
+        if flag == flagged and 1 <= last - session <= 8 and is_soon:
+            self.overtaken.add(seen.place)
+            self.tell(seen, 0, "sd overtaken", f" session {session:04x}")
+        elif flag and (not flagged or session <= last):
             self.reboots.append(seen)
             self.tell(seen, 0, "reboot")
         elif (session, flag) != following:
@@ -310,11 +317,24 @@ class Audit:
         for key, timeline in self.subscriptions().items():
             waits = None
             for at, seen in enumerate(timeline):
+                self.judge_answer(key, seen, timeline[:at])
                 if is_nack(seen.value):
                     self.tell(seen, 0, "nack", " " + subscription_text(seen.value))
                 if asks(seen.value) and not self.is_waiting(key, waits, timeline[:at], seen):
                     waits = seen
                     self.judge_subscribe(key, seen, timeline[at + 1:])
+
+    def judge_answer(self, key, seen, before):
+        """Tells an answer where each Subscribe before it, since a reboot of either side, has had one."""
+        if seen.value.kind != ACK or seen.moment < self.begin + self.rules.answer:
+            return
+        owed = 0
+        for other in before:
+            if not self.rebooted(key[:2], other.place, seen.place):
+                owed = owed + 1 if asks(other.value) else max(owed - 1, 0) if other.value.kind == ACK else owed
+        if not owed:
+            kind = "unasked nack" if is_nack(seen.value) else "unasked ack"
+            self.tell(seen, 0, kind, " " + subscription_text(seen.value))
 
     def is_waiting(self, key, asked, timeline, seen):
         """Whether a Subscribe that began to wait still waits where another thing is seen."""

@@ -95,6 +95,9 @@ STORY = [
     unknown_method(30520, 1, 0x0423),
     discovery(31000, C, GROUP, 2, entry(OFFER, 3)),
     discovery(31500, C, GROUP, 3, entry(OFFER, 3, has_bad_run=True)),
+    discovery(31550, C, GROUP, 2),
+    discovery(31600, A, C, 1, entry(ACK, 12, 3)),
+    discovery(31700, A, C, 2, entry(ACK, 0, 3)),
     event(31800, 3),
     event(31850, 2),
 ]

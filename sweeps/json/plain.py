@@ -90,6 +90,7 @@ FOUND = {
     "malformed": lambda line: f"{line['name']} at {line['at']}",
     **dict.fromkeys(("bad-run", "no-endpoint"), lambda line: ids(line, "instance")),
     "reboot": lambda line: "",
+    "sd-overtaken": lambda line: f"session {line['session']}",
     "sd-session": lambda line: f"{line['session']} expected {line['expected']}",
     "late": lambda line: f"{line['ms']} ms {call(line)}",
     "error": lambda line: f"{line['code']} {call(line)}",
@@ -98,7 +99,7 @@ FOUND = {
     "event-unsubscribed": lambda line: ids(line, "event"),
     "segments": lambda line: f"{line['name']} {call(line)}",
     **dict.fromkeys(("offer-expired", "offer-moved"), offer),
-    **dict.fromkeys(("nack", "subscribe-unanswered"), subscription),
+    **dict.fromkeys(("nack", "subscribe-unanswered", "unasked-ack", "unasked-nack"), subscription),
     "full": lambda line: line["name"],
 }
 

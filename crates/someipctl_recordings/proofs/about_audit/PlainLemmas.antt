@@ -102,6 +102,9 @@ gap-shape : (space s dot e session n to x : List ℕ)
     ≡ (space ++ (s ++ dot ++ e)) ++ ((space ++ session) ++ ((space ++ n) ++ ((space ++ to) ++ ((space ++ x) ++ []))))
 gap-shape space s dot e session n to x = simp (append_assoc, append-nil)
 
+overtaken-shape : (space session n : List ℕ) → ((space ++ session ++ space) ++ n) ++ [] ≡ (space ++ session) ++ ((space ++ n) ++ [])
+overtaken-shape space session n = simp (append_assoc, append-nil)
+
 finding-words : (finding : Finding) → fields_text Plain (finding_fields finding) ≡ spaced (said finding).words
 finding-words (findings.Malformed fault) = malformed-words (wire.fault_name fault) (wire.fault_place fault)
 finding-words (findings.MalformedSd fault) = malformed-words (sd.fault_name fault) (sd.fault_place fault)
@@ -110,10 +113,13 @@ finding-words (findings.NoEndpoint about) = event-shape (codes " ") (hex4 about.
 finding-words (findings.NoTpHeader place) = malformed-words (codes "NoHeader") place
 finding-words (findings.Session sessions.Reboot) = refl
 finding-words (findings.Session (sessions.NotNext stamp expected)) = malformed-shape (codes " ") (hex4 stamp.session) (codes "expected") (hex4 expected.session)
+finding-words (findings.Session (sessions.Overtaken stamp)) = overtaken-shape (codes " ") (codes "session") (hex4 stamp.session)
 finding-words (findings.Session sessions.Full) = refl
 finding-words (findings.Offer key offers.Moved) = offer-plain key
 finding-words (findings.Offer key offers.Full) = refl
 finding-words (findings.Subscription key subscriptions.Nack) = subscription-plain key
+finding-words (findings.Subscription key subscriptions.UnaskedAck) = subscription-plain key
+finding-words (findings.Subscription key subscriptions.UnaskedNack) = subscription-plain key
 finding-words (findings.Subscription key subscriptions.Full) = refl
 finding-words (findings.Receiver key receivers.Unsubscribed) = event-shape (codes " ") (hex4 key.service) (codes ".") (hex4 key.eventgroup)
 finding-words (findings.Receiver key receivers.Full) = refl

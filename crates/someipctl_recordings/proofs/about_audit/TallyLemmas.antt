@@ -34,7 +34,7 @@ same_summary form t reports looked counts =
 
 -- ---- one more
 
-below : (kind : Kind) → kind_number kind < 21
+below : (kind : Kind) → kind_number kind < 25
 below Malformed = lit< tt
 below _ = lit< tt
 

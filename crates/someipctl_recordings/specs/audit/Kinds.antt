@@ -1,7 +1,7 @@
 -- The kinds of findings, as the summary of an audit names them.
 use Rattle.std.specs.Prelude.{ℕ, ◌==◌, if◌then◌else◌, List, [], ◌∷◌, map, codes}
 use Rattle.someipctl_recordings.specs.declared.audit.kind.Kind.{Kind}
-use Rattle.someipctl_recordings.specs.declared.audit.kind.Kind.TheVariants.{Malformed, BadRun, NoEndpoint, Reboot, SdSession, Unanswered, Late, Error, Unasked, Repeated, KeyReused, EventRepeated, EventOvertaken, EventGap, EventUnsubscribed, Segments, SegmentsMissing, OfferExpired, OfferMoved, Nack, SubscribeUnanswered, Full}
+use Rattle.someipctl_recordings.specs.declared.audit.kind.Kind.TheVariants.{Malformed, BadRun, NoEndpoint, Reboot, SdSession, SdOvertaken, Unanswered, Late, Error, Unasked, Repeated, KeyReused, EventRepeated, EventOvertaken, EventGap, EventUnsubscribed, Segments, SegmentsMissing, OfferExpired, OfferMoved, Nack, SubscribeUnanswered, UnaskedAck, UnaskedNack, Full}
 
 -- the words of a kind
 abbrev pub kind_words : Kind → List ℕ
@@ -10,6 +10,7 @@ kind_words BadRun = codes "bad run"
 kind_words NoEndpoint = codes "no endpoint"
 kind_words Reboot = codes "reboot"
 kind_words SdSession = codes "sd session"
+kind_words SdOvertaken = codes "sd overtaken"
 kind_words Unanswered = codes "unanswered"
 kind_words Late = codes "late"
 kind_words Error = codes "error"
@@ -26,6 +27,8 @@ kind_words OfferExpired = codes "offer expired"
 kind_words OfferMoved = codes "offer moved"
 kind_words Nack = codes "nack"
 kind_words SubscribeUnanswered = codes "subscribe unanswered"
+kind_words UnaskedAck = codes "unasked ack"
+kind_words UnaskedNack = codes "unasked nack"
 kind_words Full = codes "full"
 
 -- its name in an object: its words, with `-` between them
@@ -35,8 +38,8 @@ kind_name kind = map (λ b. if b == 0x20 then 0x2D else b) (kind_words kind)
 -- all of them, in the order of the summary
 unfoldable pub all_kinds : List Kind
 all_kinds =
-    Malformed ∷ BadRun ∷ NoEndpoint ∷ Reboot ∷ SdSession ∷ Unanswered ∷ Late ∷ Error ∷ Unasked ∷ Repeated ∷ KeyReused ∷ EventRepeated ∷ EventOvertaken ∷ EventGap
-    ∷ EventUnsubscribed ∷ Segments ∷ SegmentsMissing ∷ OfferExpired ∷ OfferMoved ∷ Nack ∷ SubscribeUnanswered ∷ Full ∷ []
+    Malformed ∷ BadRun ∷ NoEndpoint ∷ Reboot ∷ SdSession ∷ SdOvertaken ∷ Unanswered ∷ Late ∷ Error ∷ Unasked ∷ Repeated ∷ KeyReused ∷ EventRepeated
+    ∷ EventOvertaken ∷ EventGap ∷ EventUnsubscribed ∷ Segments ∷ SegmentsMissing ∷ OfferExpired ∷ OfferMoved ∷ Nack ∷ SubscribeUnanswered ∷ UnaskedAck ∷ UnaskedNack ∷ Full ∷ []
 
 -- the number of a kind in that order, by which kinds are told apart
 abbrev pub kind_number : Kind → ℕ
@@ -45,20 +48,23 @@ kind_number BadRun = 1
 kind_number NoEndpoint = 2
 kind_number Reboot = 3
 kind_number SdSession = 4
-kind_number Unanswered = 5
-kind_number Late = 6
-kind_number Error = 7
-kind_number Unasked = 8
-kind_number Repeated = 9
-kind_number KeyReused = 10
-kind_number EventRepeated = 11
-kind_number EventOvertaken = 12
-kind_number EventGap = 13
-kind_number EventUnsubscribed = 14
-kind_number Segments = 15
-kind_number SegmentsMissing = 16
-kind_number OfferExpired = 17
-kind_number OfferMoved = 18
-kind_number Nack = 19
-kind_number SubscribeUnanswered = 20
-kind_number Full = 21
+kind_number SdOvertaken = 5
+kind_number Unanswered = 6
+kind_number Late = 7
+kind_number Error = 8
+kind_number Unasked = 9
+kind_number Repeated = 10
+kind_number KeyReused = 11
+kind_number EventRepeated = 12
+kind_number EventOvertaken = 13
+kind_number EventGap = 14
+kind_number EventUnsubscribed = 15
+kind_number Segments = 16
+kind_number SegmentsMissing = 17
+kind_number OfferExpired = 18
+kind_number OfferMoved = 19
+kind_number Nack = 20
+kind_number SubscribeUnanswered = 21
+kind_number UnaskedAck = 22
+kind_number UnaskedNack = 23
+kind_number Full = 24

@@ -77,6 +77,7 @@ full name = says kinds.Full (name ∷ [])
 abbrev pub said_of_session : SessionFinding → Said
 said_of_session sessions.Reboot = says kinds.Reboot []
 said_of_session (sessions.NotNext stamp expected) = says kinds.SdSession (hex4 stamp.session ∷ codes "expected" ∷ hex4 expected.session ∷ [])
+said_of_session (sessions.Overtaken stamp) = says kinds.SdOvertaken (codes "session" ∷ hex4 stamp.session ∷ [])
 said_of_session sessions.Full = full (codes "sessions")
 
 abbrev pub said_of_offer : OfferKey → OfferFinding → Said
@@ -85,6 +86,8 @@ said_of_offer key offers.Full = full (codes "offers")
 
 abbrev pub said_of_subscription : SubscriptionKey → SubscribeFinding → Said
 said_of_subscription key subscriptions.Nack = says kinds.Nack (subscription_words key)
+said_of_subscription key subscriptions.UnaskedAck = says kinds.UnaskedAck (subscription_words key)
+said_of_subscription key subscriptions.UnaskedNack = says kinds.UnaskedNack (subscription_words key)
 said_of_subscription key subscriptions.Full = full (codes "subscriptions")
 
 -- an event of a service, by its receivers

@@ -34,7 +34,7 @@ pub record Counts (t : Tally) (reports : List Report) (looked : Looked) : Type 0
   pub datagrams : t.datagrams ≡ looked.datagrams
   pub messages : t.messages ≡ looked.messages
   pub findings : t.findings ≡ length reports
-  pub size : length t.kinds ≡ 21
+  pub size : length t.kinds ≡ 25
   pub kinds : (kind : Kind) → slice_index t.kinds (kind_number kind) ≡ count_of kind reports
 
 -- ---- the text of what was counted

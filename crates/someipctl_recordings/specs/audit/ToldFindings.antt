@@ -118,6 +118,7 @@ expected_field expected = field (codes " expected ") (codes "expected") (id expe
 abbrev pub fields_of_session : SessionFinding → List ToldField
 fields_of_session sessions.Reboot = []
 fields_of_session (sessions.NotNext stamp expected) = field (codes " ") (codes "session") (id stamp.session) ∷ expected_field expected.session ∷ []
+fields_of_session (sessions.Overtaken stamp) = session_field stamp.session ∷ []
 fields_of_session sessions.Full = full_fields (codes "sessions")
 
 abbrev pub fields_of_offer : OfferKey → OfferFinding → List ToldField
@@ -126,6 +127,8 @@ fields_of_offer key offers.Full = full_fields (codes "offers")
 
 abbrev pub fields_of_subscription : SubscriptionKey → SubscribeFinding → List ToldField
 fields_of_subscription key subscriptions.Nack = subscription_fields key
+fields_of_subscription key subscriptions.UnaskedAck = subscription_fields key
+fields_of_subscription key subscriptions.UnaskedNack = subscription_fields key
 fields_of_subscription key subscriptions.Full = full_fields (codes "subscriptions")
 
 -- an event of a service, by its receivers

@@ -15,6 +15,8 @@ pub enum Kind {
     Reboot,
     /// A message of Service Discovery is not the one after the last.
     SdSession,
+    /// A message of Service Discovery was overtaken by the last.
+    SdOvertaken,
     /// A call had no answer in time.
     Unanswered,
     /// An answer came late.
@@ -47,12 +49,16 @@ pub enum Kind {
     Nack,
     /// A Subscribe had no answer in time.
     SubscribeUnanswered,
+    /// An Ack came that no Subscribe was owed.
+    UnaskedAck,
+    /// A Nack came that no Subscribe was owed.
+    UnaskedNack,
     /// A table is full.
     Full,
 }
 
 /// How many kinds there are.
-pub(crate) const KIND_COUNT: usize = 22;
+pub(crate) const KIND_COUNT: usize = 25;
 
 /// All kinds, in the order of the summary.
 #[tactic(auto, unfolding(crate::specs::audit::Kinds::all_kinds))]
@@ -65,6 +71,7 @@ pub(crate) fn kinds() -> [Kind; KIND_COUNT]
         Kind::NoEndpoint,
         Kind::Reboot,
         Kind::SdSession,
+        Kind::SdOvertaken,
         Kind::Unanswered,
         Kind::Late,
         Kind::Error,
@@ -81,6 +88,8 @@ pub(crate) fn kinds() -> [Kind; KIND_COUNT]
         Kind::OfferMoved,
         Kind::Nack,
         Kind::SubscribeUnanswered,
+        Kind::UnaskedAck,
+        Kind::UnaskedNack,
         Kind::Full,
     ]
 }
@@ -96,6 +105,7 @@ impl Kind {
             Kind::NoEndpoint => "no endpoint",
             Kind::Reboot => "reboot",
             Kind::SdSession => "sd session",
+            Kind::SdOvertaken => "sd overtaken",
             Kind::Unanswered => "unanswered",
             Kind::Late => "late",
             Kind::Error => "error",
@@ -112,6 +122,8 @@ impl Kind {
             Kind::OfferMoved => "offer moved",
             Kind::Nack => "nack",
             Kind::SubscribeUnanswered => "subscribe unanswered",
+            Kind::UnaskedAck => "unasked ack",
+            Kind::UnaskedNack => "unasked nack",
             Kind::Full => "full",
         }
     }
@@ -126,6 +138,7 @@ impl Kind {
             Kind::NoEndpoint => "no-endpoint",
             Kind::Reboot => "reboot",
             Kind::SdSession => "sd-session",
+            Kind::SdOvertaken => "sd-overtaken",
             Kind::Unanswered => "unanswered",
             Kind::Late => "late",
             Kind::Error => "error",
@@ -142,6 +155,8 @@ impl Kind {
             Kind::OfferMoved => "offer-moved",
             Kind::Nack => "nack",
             Kind::SubscribeUnanswered => "subscribe-unanswered",
+            Kind::UnaskedAck => "unasked-ack",
+            Kind::UnaskedNack => "unasked-nack",
             Kind::Full => "full",
         }
     }

@@ -44,6 +44,8 @@ pub fn findings_have_texts()
     ensures reboot { said_text (said (findings.Session sessions.Reboot)) ≡ codes " reboot\n" }
     ensures session { said_text (said (findings.Session (sessions.NotNext (record { session = 7; reboot = true })
         (record { session = 6; reboot = true })))) ≡ codes " sd session 0007 expected 0006\n" }
+    ensures overtaken { said_text (said (findings.Session (sessions.Overtaken (record { session = 5; reboot = true }))))
+        ≡ codes " sd overtaken session 0005\n" }
     ensures late { said_text (said (findings.Call header_1 (calls.Late 300)))
         ≡ codes " late 300 ms 1234.0421 client 0101 session 0002\n" }
     ensures error { said_text (said (findings.Error error_1))
@@ -70,6 +72,10 @@ pub fn findings_have_texts()
         ≡ codes " offer moved 1234.0001 major 02\n" }
     ensures nack { said_text (said (findings.Subscription key_1 subscriptions.Nack))
         ≡ codes " nack 1234.0001 major 02 group 0005 counter 3\n" }
+    ensures unasked_ack { said_text (said (findings.Subscription key_1 subscriptions.UnaskedAck))
+        ≡ codes " unasked ack 1234.0001 major 02 group 0005 counter 3\n" }
+    ensures unasked_nack { said_text (said (findings.Subscription key_1 subscriptions.UnaskedNack))
+        ≡ codes " unasked nack 1234.0001 major 02 group 0005 counter 3\n" }
     ensures full { said_text (said (findings.Event event_1 receivers.Full)) ≡ codes " full receivers\n" }
     ensures endpoints { said_text (said findings.EndpointsFull) ≡ codes " full endpoints\n" }
 {}
@@ -127,6 +133,11 @@ pub fn findings_are_objects()
         ≡ codes "{\"kind\":\"error\",\"datagram\":12,\"time\":null,\"from\":\"192.168.0.1:40000\",\"to\":\"192.168.0.2:30490\",\"code\":\"03\",\"service\":\"1234\",\"method\":\"0421\",\"client\":\"0101\",\"session\":\"0002\"}\n" }
     ensures gap { finding_line Json false None origin_1 (findings.EventSession flow_1 0x59 (events.Lost 7 0x58))
         ≡ codes "{\"kind\":\"event-gap\",\"datagram\":12,\"time\":null,\"from\":\"192.168.0.1:40000\",\"to\":\"192.168.0.2:30490\",\"service\":\"1234\",\"event\":\"8001\",\"session\":\"0007\",\"last\":\"0058\"}\n" }
+    ensures overtaken { finding_line Json false None origin_1
+        (findings.Session (sessions.Overtaken (record { session = 5; reboot = true })))
+        ≡ codes "{\"kind\":\"sd-overtaken\",\"datagram\":12,\"time\":null,\"from\":\"192.168.0.1:40000\",\"to\":\"192.168.0.2:30490\",\"session\":\"0005\"}\n" }
+    ensures unasked_ack { finding_line Json false None origin_1 (findings.Subscription key_1 subscriptions.UnaskedAck)
+        ≡ codes "{\"kind\":\"unasked-ack\",\"datagram\":12,\"time\":null,\"from\":\"192.168.0.1:40000\",\"to\":\"192.168.0.2:30490\",\"service\":\"1234\",\"instance\":\"0001\",\"major\":\"02\",\"group\":\"0005\",\"counter\":3}\n" }
     ensures full { finding_line Json false None origin_1 (findings.Event event_1 receivers.Full)
         ≡ codes "{\"kind\":\"full\",\"datagram\":12,\"time\":null,\"from\":\"192.168.0.1:40000\",\"to\":\"192.168.0.2:30490\",\"name\":\"receivers\"}\n" }
     ensures missing { due_line Json true (due.Missing missing_1)

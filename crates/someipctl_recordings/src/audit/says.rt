@@ -180,6 +180,10 @@ fn put_session<W: Write>(
             ];
             put_said(buffer, writer, head, Kind::SdSession, &fields)
         }
+        audit_sd::sessions::Finding::Overtaken { stamp } => {
+            let fields = [session_field(stamp.session)];
+            put_said(buffer, writer, head, Kind::SdOvertaken, &fields)
+        }
         audit_sd::sessions::Finding::Full => put_full(buffer, writer, head, "sessions"),
     }
 }
@@ -216,9 +220,16 @@ fn put_subscription<W: Write>(
         (fields_of_subscription key.now shown.now) result
         (W.contents writer.old) buffer.old (W.contents writer.new) buffer.new }
 {
+    let fields = subscription_fields(key);
     match shown {
         audit_sd::subscriptions::Finding::Nack => {
-            put_said(buffer, writer, head, Kind::Nack, &subscription_fields(key))
+            put_said(buffer, writer, head, Kind::Nack, &fields)
+        }
+        audit_sd::subscriptions::Finding::UnaskedAck => {
+            put_said(buffer, writer, head, Kind::UnaskedAck, &fields)
+        }
+        audit_sd::subscriptions::Finding::UnaskedNack => {
+            put_said(buffer, writer, head, Kind::UnaskedNack, &fields)
         }
         audit_sd::subscriptions::Finding::Full => put_full(buffer, writer, head, "subscriptions"),
     }

@@ -1,5 +1,5 @@
 //! Sessions of three nodes.
-use super::places::node;
+use super::places::{at, node};
 use audit_sd::sessions::{Finding, SdMessage, SessionBook, laws};
 use sd_session::Stamp;
 use std::alloc::Global;
@@ -10,12 +10,14 @@ enum Shown {
     Reboot,
     /// It has not the session and the Reboot flag that the next one would have.
     Not(u16, bool),
+    Overtaken,
     Full,
 }
 
-use Shown::{Full, Not, Nothing, Reboot};
+use Shown::{Full, Not, Nothing, Overtaken, Reboot};
 
-/// From a node to another: the session and the Reboot flag, and what they show.
+/// From a node to another: the session and the Reboot flag, and what they show. A message may be overtaken by one that
+/// comes at most 100 milliseconds before it. The messages of most tables are further apart.
 type Heard = (u8, u8, u16, bool, Shown);
 
 /// Two senders, to the group and to each other. Node 1 begins again in between, and one is lost then. Session 0
@@ -46,6 +48,22 @@ const WRAPPING: &[Heard] = &[
     (1, 0, 2, true, Reboot),
 ];
 
+/// Messages that come 50 milliseconds apart.
+const CLOSE: &[Heard] = &[
+    (1, 0, 20, true, Nothing),
+    (1, 0, 23, true, Not(21, true)),
+    (1, 0, 22, true, Overtaken),
+    (1, 0, 21, true, Overtaken),
+    (1, 0, 24, true, Nothing),
+    (1, 2, 23, true, Nothing),
+    (1, 0, 16, true, Overtaken),
+    (1, 0, 24, true, Reboot),
+    (1, 0, 15, true, Reboot),
+    (1, 0, 14, false, Not(16, true)),
+    (1, 0, 13, false, Overtaken),
+    (1, 0, 12, true, Reboot),
+];
+
 /// A book for two pairs, and a reboot that makes room.
 const CROWDED: &[Heard] = &[
     (1, 0, 5, true, Nothing),
@@ -70,18 +88,20 @@ fn told(shown: &Shown, stamp: Stamp) -> Option<Finding> {
             };
             Some(Finding::NotNext { stamp, expected })
         }
+        Overtaken => Some(Finding::Overtaken { stamp }),
         Full => Some(Finding::Full),
     }
 }
 
-/// Whether a message shows what its row says.
-fn is_right(book: &mut SessionBook, row: &Heard) -> bool {
+/// Whether a message at a moment shows what its row says.
+fn is_right(book: &mut SessionBook, millis: u32, row: &Heard) -> bool {
     let (from, to, session, reboot, shown) = row;
     let stamp = Stamp {
         session: *session,
         reboot: *reboot,
     };
     let message = SdMessage {
+        at: at(millis),
         from: node(*from),
         to: node(*to),
         stamp,
@@ -89,37 +109,77 @@ fn is_right(book: &mut SessionBook, row: &Heard) -> bool {
     book.saw(message).ok() == Some(told(shown, stamp))
 }
 
-/// The number of the first message that shows something else, in a book for so many pairs; or how many there are, where
-/// the book should have a number of pairs then and has another one.
-fn first_wrong(alloc: Global, limit: usize, rows: &[Heard], pairs: Option<usize>) -> Option<usize> {
-    let mut book = SessionBook::new(alloc, limit);
-    match first_wrong_in(&mut book, rows) {
-        None if book.len() != pairs.unwrap_or(book.len()) => Some(rows.len()),
+/// A table by its name: for how many pairs its book is, how many milliseconds are between its messages, and how many
+/// pairs the book should have then, if that is told.
+struct Table {
+    name: &'static str,
+    limit: usize,
+    apart: u32,
+    rows: &'static [Heard],
+    pairs: Option<usize>,
+}
+
+/// The number of the first message that shows something else; or how many there are, where the book has another number
+/// of pairs then.
+fn first_wrong(alloc: Global, table: &Table) -> Option<usize> {
+    let mut book = SessionBook::new(alloc, table.limit, 100);
+    match first_wrong_in(&mut book, table.apart, table.rows) {
+        None if book.len() != table.pairs.unwrap_or(book.len()) => Some(table.rows.len()),
         wrong => wrong,
     }
 }
 
-fn first_wrong_in(book: &mut SessionBook, rows: &[Heard]) -> Option<usize> {
+fn first_wrong_in(book: &mut SessionBook, apart: u32, rows: &[Heard]) -> Option<usize> {
+    let mut millis = 0;
     for (index, row) in rows.iter().enumerate() {
-        if !is_right(book, row) {
+        if !is_right(book, millis, row) {
             return Some(index);
         }
+        millis = millis.saturating_add(apart);
     }
     None
 }
 
-/// Tables by their names, for how many pairs a book is, and how many it should have then, if that is told.
-const TABLES: &[(&str, usize, &[Heard], Option<usize>)] = &[
-    ("TWO_SENDERS", 100, TWO_SENDERS, Some(3)),
-    ("WRAPPING", 100, WRAPPING, None),
-    ("CROWDED", 2, CROWDED, None),
+const TABLES: &[Table] = &[
+    Table {
+        name: "TWO_SENDERS",
+        limit: 100,
+        apart: 1000,
+        rows: TWO_SENDERS,
+        pairs: Some(3),
+    },
+    Table {
+        name: "WRAPPING",
+        limit: 100,
+        apart: 1000,
+        rows: WRAPPING,
+        pairs: None,
+    },
+    Table {
+        name: "CLOSE",
+        limit: 100,
+        apart: 50,
+        rows: CLOSE,
+        pairs: None,
+    },
+    Table {
+        name: "CROWDED",
+        limit: 2,
+        apart: 1000,
+        rows: CROWDED,
+        pairs: None,
+    },
 ];
 
 #[test]
 fn sessions_are_told(rt: HostRuntime) {
-    for (name, limit, rows, pairs) in TABLES {
-        let wrong = first_wrong(rt.alloc(), *limit, rows, *pairs);
-        assert!(rt; wrong.is_none(), "the first wrong row of {name}: {wrong:?}");
+    for table in TABLES {
+        let wrong = first_wrong(rt.alloc(), table);
+        assert!(rt;
+            wrong.is_none(),
+            "the first wrong row of {}: {wrong:?}",
+            table.name
+        );
     }
     laws::findings_by_example();
 }

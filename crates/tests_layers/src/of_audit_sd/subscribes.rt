@@ -11,6 +11,8 @@ enum Act {
     Subscribe(u32, u64, u8, u32, Option<Finding>),
     /// At a moment, datagram k: the answer to a node.
     Answer(u32, u64, u8, u32, Option<Finding>),
+    /// At a moment: what the answer to a node, with so many seconds, is told as that nobody asked for.
+    Unasked(u32, u8, u32, Option<Finding>),
     /// A node begins again.
     Began(u8),
     /// At a moment the Subscribe of this datagram has no answer, at a deadline; or none has none.
@@ -21,7 +23,7 @@ enum Act {
     Len(usize),
 }
 
-use Act::{Answer, Began, Due, Len, Next, Subscribe};
+use Act::{Answer, Began, Due, Len, Next, Subscribe, Unasked};
 
 /// An answer may take 2000 milliseconds.
 const STORY: &[Act] = &[
@@ -62,6 +64,35 @@ const CROWDED: &[Act] = &[
     Due(2400, Some((2400, 5))),
 ];
 
+/// From moment 50 on it is known what was asked.
+const OWED: &[Act] = &[
+    Unasked(49, 1, 3, None),
+    Unasked(50, 1, 3, Some(Finding::UnaskedAck)),
+    Unasked(50, 1, 0, Some(Finding::UnaskedNack)),
+    Subscribe(100, 1, 1, 3, None),
+    Subscribe(200, 2, 1, 3, None),
+    Unasked(300, 2, 3, Some(Finding::UnaskedAck)),
+    Due(2100, Some((2100, 1))),
+    Unasked(2200, 1, 3, None),
+    Answer(2200, 3, 1, 3, None),
+    Unasked(9000, 1, 3, None),
+    Answer(9000, 4, 1, 3, None),
+    Unasked(9000, 1, 3, Some(Finding::UnaskedAck)),
+    Subscribe(9100, 5, 1, 3, None),
+    Began(2),
+    Unasked(9200, 1, 3, None),
+    Began(1),
+    Unasked(9200, 1, 3, Some(Finding::UnaskedAck)),
+];
+
+/// A book for one Subscribe, which was full, tells no answer.
+const SILENT: &[Act] = &[
+    Subscribe(100, 1, 1, 3, None),
+    Unasked(200, 2, 3, Some(Finding::UnaskedAck)),
+    Subscribe(200, 2, 2, 3, Some(Finding::Full)),
+    Unasked(300, 2, 3, None),
+];
+
 /// An entry of eventgroup 5 of service 4096 that a client has with node 9.
 fn entry(number: u64, client: u8, kind: EntryKind, ttl: u32) -> SubscribeEntry {
     let key = SubscriptionKey {
@@ -96,6 +127,10 @@ fn comes_out(book: &mut SubscribeBook, act: &Act) -> bool {
             let entry = entry(*number, *client, EntryKind::Answer, *ttl);
             book.saw(at(*millis), entry).ok() == Some(*told)
         }
+        Unasked(millis, client, ttl, told) => {
+            let entry = entry(1, *client, EntryKind::Answer, *ttl);
+            book.unasked(at(*millis), &entry) == *told
+        }
         Began(number) => {
             book.forget(node(*number));
             true
@@ -111,7 +146,7 @@ fn comes_out(book: &mut SubscribeBook, act: &Act) -> bool {
 
 /// The number of the first act that comes out otherwise, in a book for so many Subscribes.
 fn first_wrong(alloc: Global, limit: usize, acts: &[Act]) -> Option<usize> {
-    let mut book = SubscribeBook::new(alloc, limit, 2000);
+    let mut book = SubscribeBook::new(alloc, limit, 2000, at(50));
     first_wrong_in(&mut book, acts)
 }
 
@@ -125,7 +160,12 @@ fn first_wrong_in(book: &mut SubscribeBook, acts: &[Act]) -> Option<usize> {
 }
 
 /// Tables by their names, and for how many Subscribes a book is.
-const TABLES: &[(&str, usize, &[Act])] = &[("STORY", 100, STORY), ("CROWDED", 1, CROWDED)];
+const TABLES: &[(&str, usize, &[Act])] = &[
+    ("STORY", 100, STORY),
+    ("CROWDED", 1, CROWDED),
+    ("OWED", 100, OWED),
+    ("SILENT", 1, SILENT),
+];
 
 #[test]
 fn subscribes_are_told(rt: HostRuntime) {

@@ -23,6 +23,8 @@ enum Told {
     Expired,
     /// A Subscribe has no answer.
     SubscribeUnanswered,
+    UnaskedAck,
+    UnaskedNack,
     Reboot,
     OfferFull,
     Nack,
@@ -50,8 +52,8 @@ enum Told {
 
 use Told::{
     BadRun, EndpointsFull, EntriesLength, Expired, Gap, Late, Missing, Nack, NoEndpoint,
-    NoTpHeader, OfferFull, Other, Overtaken, Reboot, Repeated, SubscribeUnanswered, Truncated, Unanswered,
-    UnknownMethod, Unsubscribed,
+    NoTpHeader, OfferFull, Other, Overtaken, Reboot, Repeated, SubscribeUnanswered, Truncated,
+    Unanswered, UnaskedAck, UnaskedNack, UnknownMethod, Unsubscribed,
 };
 
 /// A datagram: at a moment, from a port of a node to a port of a node, with these bytes; what is told
@@ -255,6 +257,21 @@ const OPTIONS: &[Row] = &[
     Row(300, (9, 30490), (0, 30490), BAD_RUN, &[BadRun], Some(1)),
 ];
 
+/// Answers that nobody asked for, once an answer may no longer be to what came before the recording.
+const UNASKED: &[Row] = &[
+    Row(100, (9, 30490), (1, 30490), ACK, &[], Some(1)),
+    Row(1049, (9, 30490), (1, 30490), NACK, &[Nack], Some(1)),
+    Row(1050, (9, 30490), (2, 30490), ACK, &[UnaskedAck], Some(1)),
+    Row(
+        1200,
+        (9, 30490),
+        (2, 30490),
+        NACK,
+        &[UnaskedNack, Nack],
+        Some(1),
+    ),
+];
+
 /// Books for one key each.
 const CROWDED: &[Row] = &[
     Row(100, (9, 30490), (0, 30490), OFFER, &[], Some(1)),
@@ -293,6 +310,8 @@ fn told_of(finding: &Finding) -> Told {
         Finding::Session(audit_sd::sessions::Finding::Reboot) => Reboot,
         Finding::Offer(_, audit_sd::offers::Finding::Full) => OfferFull,
         Finding::Subscription(_, audit_sd::subscriptions::Finding::Nack) => Nack,
+        Finding::Subscription(_, audit_sd::subscriptions::Finding::UnaskedAck) => UnaskedAck,
+        Finding::Subscription(_, audit_sd::subscriptions::Finding::UnaskedNack) => UnaskedNack,
         Finding::Call(_, CallFinding::Late(1400)) => Late,
         Finding::Event(_, audit_sd::receivers::Finding::Unsubscribed) => Unsubscribed,
         Finding::EventSession(_, _, shown) => told_of_event(shown),
@@ -431,6 +450,7 @@ const TABLES: &[(&str, Option<&[u16]>, usize, &[Row])] = &[
     ("MALFORMED", None, 100, MALFORMED),
     ("ERRORS", Some(&[30509]), 100, ERRORS),
     ("OPTIONS", None, 100, OPTIONS),
+    ("UNASKED", None, 100, UNASKED),
     ("CROWDED", None, 1, CROWDED),
 ];
 
