@@ -7,10 +7,10 @@ mod kind;
 pub mod laws;
 mod lines;
 mod says;
+mod settings;
 mod subject;
 mod summary;
 mod tally;
-mod settings;
 
 pub use asked::AuditAsked;
 pub use audits::show_audit;
