@@ -1,14 +1,14 @@
 -- The objects of messages in parts.
-use Rattle.std.proofs.Common.{◌≡◌, ℕ, ◌<◌, ◌+◌, List, [], ◌∷◌, ◌++◌, length, codes, decimal, refl, sym, ap, ap₂, ◌∙◌, append_assoc}
+use Rattle.std.proofs.Common.{◌≡◌, ℕ, ◌<◌, ◌+◌, List, [], ◌++◌, length, codes, decimal, refl, sym, ap, ◌∙◌, append_assoc}
 use Rattle.std.proofs.lemmas.List.{append-nil}
 use Rattle.hex.specs.Hex.{encode_lower}
-use Rattle.json.specs.Print.{escape, escape_byte, quoted}
+use Rattle.json.specs.Print.{escape, escape_byte}
 use Rattle.someip_texts.specs.Words.{hex2, hex4}
 use Rattle.someip_wire.specs.Spelling.{MessageValue}
 use Rattle.someip_wire.specs.declared.MessageType.{MessageType}
 use Rattle.someip_wire.specs.declared.MessageType.TheVariants.{Request, RequestNoReturn, Notification, Response, Error, TpRequest, TpRequestNoReturn, TpNotification, TpResponse, TpError}
 use Rattle.someipctl_io.specs.declared.form.Form.TheVariants.{Json}
-use Rattle.someipctl_io.specs.JsonTexts.{json_text, key_text}
+use Rattle.someipctl_io.specs.JsonTexts.{key_text}
 use Rattle.someipctl_io.specs.Lines.{type_name}
 use Rattle.someipctl_io.specs.MessageObjects.{code_members, ids_members, interface_members, session_members}
 use Rattle.someipctl_io.specs.ToldLines.{end_text, fields_text}

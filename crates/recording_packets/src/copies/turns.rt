@@ -6,7 +6,7 @@
 //!
 //! There are few slots while few packets are remembered, so that they stay in the processor's cache. With
 //! more packets they are doubled: what stands in a slot then stands in the first or the second of its two.
-ghost use Rattle.std.specs.Prelude.{◌≡◌, ◌≤◌, ◌<◌, ◌+◌, ◌&&◌, nat_lt, ℕ, true, Some, None, OnOk, OnErr, length};
+ghost use Rattle.std.specs.Prelude.{◌≡◌, ◌≤◌, ◌<◌, ◌-◌, ◌&&◌, nat_lt, ℕ, true, Some, None, OnOk, OnErr, length};
 ghost use Rattle.std.specs.Prelude.{if◌then◌else◌, IsSome, slice_index_or, slice_set};
 ghost use Rattle.std.specs.Option.{is_none};
 ghost use Rattle.std.specs.BTreeMap as tree;
@@ -109,8 +109,8 @@ impl Turns {
     fn make_room(&mut self) -> Result<(), AllocError>
         ensures same { (q : SharedPacket) → turn_in self.new q ≡ turn_in self.old q }
         ensures there { OnOk result (FIRST_SLOTS ≤ length self.new.slots.items) }
-        ensures more { OnOk result (is_crowded self.old.shift self.old.packets ≡ true
-            → self.new.shift + 1 ≡ self.old.shift) }
+        ensures shift { OnOk result (self.new.shift ≡ (if is_crowded self.old.shift self.old.packets
+            then self.old.shift - 1 else self.old.shift)) }
     {
         make_slots(&mut self.slots)?;
         if !is_crowded(self.shift, self.packets) {

@@ -1,5 +1,5 @@
-use Rattle.std.proofs.Common.{◌≡◌, ◌≢◌, ◌<◌, ◌≤◌, ◌+◌, ◌∙◌, ◌++◌, length, take, ap, sym, None, arith}
-use Rattle.std.specs.List.{flat_map, slice_index_or, slice_set}
+use Rattle.std.proofs.Common.{◌≡◌, ◌≢◌, ◌<◌, ◌∙◌, ◌++◌, length, ap, sym, None, arith}
+use Rattle.std.specs.List.{slice_set}
 use Rattle.std.proofs.lemmas.List.{get_or-set_other, length-set}
 use Rattle.recording_packets.specs.copies.Slots.{halves}
 use Rattle.recording_packets.proofs.about_copies.SlotLemmas.{moved_more}

@@ -1,8 +1,8 @@
-use Rattle.std.proofs.Common.{◌≡◌, ◌<◌, ◌∙◌, sym, ap, refl, subst, cond, length, Some, None, true}
+use Rattle.std.proofs.Common.{◌≡◌, ◌<◌, ◌∙◌, sym, ap, refl, subst, cond, length, Some, None}
 use Rattle.std.specs.List.{slice_index_or, slice_set}
 use Rattle.recording_packets.specs.copies.Remembered.{is_same}
 use Rattle.recording_packets.specs.copies.Owned.{packet_of}
-use Rattle.recording_packets.specs.copies.Slots.{place_in, slot_of, turn_in}
+use Rattle.recording_packets.specs.copies.Slots.{place_in, slot_of}
 use Rattle.recording_packets.specs.declared.copies.turns.Turns.{Turns}
 use Rattle.recording_packets.proofs.about_copies.SlotLemmas.{free_slot, or_none, other_put, slot_filled}
 use Rattle.recording_packets.proofs.copies.turns.Turns.insert.Goals as goal

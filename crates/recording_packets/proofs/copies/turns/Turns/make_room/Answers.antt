@@ -1,4 +1,4 @@
-use Rattle.std.proofs.Common.{◌≡◌, ◌<◌, ◌≤◌, ◌+◌, ◌-◌, ◌∙◌, sym, refl, subst, length, arith}
+use Rattle.std.proofs.Common.{◌≡◌, ◌≤◌, ◌+◌, ◌-◌, ◌∙◌, sym, refl, subst, length, arith}
 use Rattle.recording_packets.specs.declared.copies.turns.Turns.{Turns}
 use Rattle.recording_packets.specs.declared.copies.turns.TheConstants.{FIRST_SLOTS}
 use Rattle.recording_packets.proofs.about_copies.SlotLemmas.{crowded_shift, doubled_turns, more_slots, same_turns}
