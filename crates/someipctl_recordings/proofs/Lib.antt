@@ -8,3 +8,4 @@ pub mod ShowingLemmas
 pub mod ChoiceLemmas
 pub mod ListLemmas
 pub mod about_audit
+pub mod ExtractLemmas

@@ -14,3 +14,4 @@ pub mod Scenes
 pub mod RecordingResult
 pub mod Coming
 pub mod audit
+pub mod Extracts
