@@ -1,8 +1,9 @@
 //! What Service Discovery shows in a recording, a book for each kind:
 //!
-//! - [`sessions`]: which sender began again, and which message is not the next one;
+//! - [`sessions`]: which sender began again, which message is not the next one, and which was overtaken;
 //! - [`offers`]: which offer moved, and which expired;
-//! - [`subscriptions`]: which Subscribe was refused or stayed without an answer;
+//! - [`subscriptions`]: which Subscribe was refused or stayed without an answer, and which answer nobody
+//!   asked for;
 //! - [`receivers`]: which event goes to an endpoint that has no subscription.
 #![tactic(auto)]
 
