@@ -8,4 +8,3 @@ pub mod ShowingLemmas
 pub mod ChoiceLemmas
 pub mod ListLemmas
 pub mod about_audit
-pub mod ExtractLemmas

@@ -14,4 +14,3 @@ pub mod Scenes
 pub mod RecordingResult
 pub mod Coming
 pub mod audit
-pub mod Extracts

@@ -4,8 +4,6 @@
 //! - [`show_recording`]: prints what a recording shows; [`Asked`]: what of it is asked for, and
 //!   [`WholeLimits`]: what bounds messages that are put together from their segments;
 //! - [`ShownRecording`]: how that ended, with what was [`LeftOut`];
-//! - [`extract_recording`]: writes the packets of datagrams as pcapng; [`Extracted`]: how that ended, and
-//!   what it lacks, [`Missing`];
 //! - [`limits_in`]: the limits that texts say; [`number_or`]: a number of such a text;
 //! - [`lists`]: the ports, interfaces, VLAN IDs and addresses that a text names;
 //! - [`read_loop`], [`moments`], [`heads`], [`reassembly`]: what comes next of a recording, its moment, the text of
@@ -26,7 +24,6 @@ mod asked;
 pub mod audit;
 pub mod choice;
 mod datagrams;
-mod extracts;
 pub mod heads;
 pub mod laws;
 mod limits;
@@ -39,7 +36,6 @@ mod sought;
 mod wanted;
 
 pub use asked::{Asked, Heads, WholeLimits};
-pub use extracts::{Extracted, Missing, extract_recording};
 pub use limits::{LimitsError, limits_in, number_or, number_within};
 pub use recordings::{FileFault, ShownRecording, StoppedAt, show_recording};
 pub use wanted::Wanted;
