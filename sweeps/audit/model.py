@@ -408,7 +408,7 @@ class Audit:
     def judge_event(self, flow, stream, standings, missing, seen):
         """Judges an event by those of its flow that were each the last one, and enters it where it is the last."""
         header, ends = seen.value[0], (seen.sender, seen.receiver)
-        awaited = waiting(missing, header.session, seen.moment)
+        awaited = waiting(missing, header.session, seen)
         if awaited:
             awaited.came = True
         last = flow[-1] if flow and not self.rebooted(ends, flow[-1].place, seen.place) else None
@@ -429,7 +429,7 @@ class Audit:
             text = f" {event_text(header)} session {skipped[0]:04x} to {skipped[-1]:04x}"
             return self.tell(seen, 2, "event gap", text)
         for session in skipped:
-            if not waiting(missing, session, seen.moment):
+            if not waiting(missing, session, seen):
                 missing.append(Missing(session, seen, seen.moment + self.rules.overtake))
 
     def is_excused(self, last, stream, standings, seen):
@@ -493,10 +493,11 @@ class Missing:
         self.session, self.shown_by, self.deadline, self.came = session, shown_by, deadline, False
 
 
-def waiting(missing, session, moment):
-    """The missing session that this is, if it waits at this moment."""
-    found = (gap for gap in missing if gap.session == session and not gap.came and moment < gap.deadline)
-    return next(found, None)
+def waiting(missing, session, seen):
+    """The missing session that this is, if it waits where something is seen: before its deadline, or in the very datagram
+    that showed it."""
+    waits = (gap for gap in missing if gap.session == session and not gap.came)
+    return next((gap for gap in waits if seen.moment < gap.deadline or gap.shown_by.datagram == seen.datagram), None)
 
 
 class Standing(NamedTuple):
