@@ -58,7 +58,7 @@ pub fn findings_have_texts()
         ≡ codes " key reused 1234.0421 client 0101 session 0002\n" }
     ensures twice { said_text (said (findings.EventSession flow_1 9 events.Repeated))
         ≡ codes " event repeated 1234.8001 session 0009\n" }
-    ensures overtaken { said_text (said (findings.EventSession flow_1 9 events.Overtaken))
+    ensures event_overtaken { said_text (said (findings.EventSession flow_1 9 events.Overtaken))
         ≡ codes " event overtaken 1234.8001 session 0009\n" }
     ensures gap { said_text (said_of_due (due.EventLost lost_1)) ≡ codes " event gap 1234.8001 session 0009\n" }
     ensures wide_gap { said_text (said (findings.EventSession flow_1 0x59 (events.Lost 7 0x58)))
