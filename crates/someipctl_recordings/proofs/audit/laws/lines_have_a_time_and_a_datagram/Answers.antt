@@ -14,4 +14,5 @@ returns c = record {
   missing = refl;
   expired = refl;
   subscribe = refl;
+  lost = refl;
 }
