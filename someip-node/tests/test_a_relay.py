@@ -1,4 +1,5 @@
 """Two nodes in networks of their own, between which a relay drops one datagram in ten: what is handed up is what was sent."""
+import os
 import socket
 import subprocess
 import threading
@@ -80,13 +81,16 @@ class WithARelay(Bench):
         script = BEGIN.format(end=ends[1], address=address)
         node = self.start(name, "--log", self.path(name), "--interface", ends[1], setup=self.path("setup.toml"),
                           before=("unshare", "-n", "sh", "-c", script, "sh"))
-        for _ in range(100):
-            moved = subprocess.run(["ip", "link", "set", ends[1], "netns", str(node.process.pid)], stderr=subprocess.DEVNULL,
-                                   check=False)
-            time.sleep(0.02)
-            if moved.returncode == 0:
-                break
+        self.wait_for_network(node.process.pid)
+        subprocess.run(["ip", "link", "set", ends[1], "netns", str(node.process.pid)], check=True)
         return node, ends[0]
+
+    def wait_for_network(self, process):
+        """Until a process is in a network of its own: what is given to it before then would stay in this one."""
+        here, end = os.readlink("/proc/self/ns/net"), time.monotonic() + 20
+        while os.readlink(f"/proc/{process}/ns/net") == here:
+            self.assertLess(time.monotonic(), end, "no network of its own")
+            time.sleep(0.005)
 
     def serve(self, server, requests):
         """Answers each request by its payload twice, and publishes it."""
