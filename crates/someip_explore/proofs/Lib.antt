@@ -1,0 +1,9 @@
+pub mod CopyLemmas
+pub mod RuleLemmas
+pub mod PlanLemmas
+pub mod TraceLemmas
+pub mod SearchLemmas
+pub mod SearchMeaning
+pub mod GoalLemmas
+pub mod ExploringLemmas
+pub mod TriedLemmas

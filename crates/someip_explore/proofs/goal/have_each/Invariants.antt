@@ -1,0 +1,11 @@
+use Rattle.std.proofs.Common.{◌≡◌, drop, map}
+use Rattle.std.specs.List.{list_all}
+use Rattle.someip_explore.specs.Goals.{some_has}
+use Rattle.someip_explore.specs.GoalViews.{words_of}
+use Rattle.someip_explore.proofs.goal.have_each.Given as goal
+
+-- what is left decides
+abbrev pub invariant-loop-words : goal.invariant-loop-words
+invariant-loop-words l =
+    list_all (λ words. some_has l.nodes words 1 l.lines) (map words_of (drop l.words-index l.once))
+    ≡ list_all (λ words. some_has l.nodes words 1 l.lines) (map words_of l.once)

@@ -1,0 +1,32 @@
+//! Every schedule up to a length: which is the first that reaches a goal.
+//!
+//! - [`explore`]: tries the schedules that begin with some steps and go on by moves, up to [`Limits`], and
+//!   tells what they came to as [`Exploration`];
+//! - [`Move`]: by which steps a schedule may go on; [`PlainMove`] is one of a single step;
+//! - [`Goal`]: what a schedule is to bring about;
+//! - [`Judgement`]: what a schedule comes to; [`Explored`]: what a search among schedules comes to;
+//! - [`laws`]: that one schedule has one trace; which schedules are tried; examples.
+//!
+//! `search` knows nothing of nodes: it tries lists of steps, by a trait that says how one may go on and what
+//! it comes to. Which lists these are, and in which order, is `specs/Search.antt`. A schedule is judged by
+//! its trace (`trace_of` of `specs/Traces.antt`), which is a function of setup and steps. So 'reaches' is said
+//! of no code.
+#![tactic(auto)]
+
+mod exploring;
+mod goal;
+pub mod laws;
+mod limits;
+mod moves;
+mod numbers;
+mod plain_move;
+mod search;
+mod traced;
+mod words;
+
+pub use exploring::{Exploration, explore};
+pub use goal::Goal;
+pub use limits::Limits;
+pub use moves::Move;
+pub use plain_move::PlainMove;
+pub use search::{Explored, Judgement};
