@@ -2,6 +2,7 @@
 calls fill theirs. What has to be told of them is known without any book: `full NAME` of the first message that finds no
 room, and nothing else."""
 import wire
+from model import unjudged_of
 
 LIMIT, SECOND = 65536, 10**9
 SERVER, CLIENT = (wire.address("192.168.0.1"), 30509), (wire.address("192.168.0.2"), 40001)
@@ -75,6 +76,13 @@ def gaps():
     return offered() + of_messages(SERVER, CLIENT, headers)
 
 
+def ways():
+    """Answers from one endpoint to more others than ways are counted, before an answer can be one that nobody asked for."""
+    answer = wire.message(wire.Header(1, 0, 0, 1, 1, wire.RESPONSE, 0), b"")
+    ends = [(CLIENT[0] + number // 60000, 1 + number % 60000) for number in range(LIMIT + 2)]
+    return offered() + [wire.Record(0, SERVER, end, answer) for end in ends]
+
+
 def sessions():
     return [discovery((A[0] + number, A[1]), GROUP, 1, []) for number in range(LIMIT + 2)]
 
@@ -103,11 +111,18 @@ def receivers():
 
 
 def endpoints():
-    """Offers of one instance at other endpoints, each of which is stopped before the next."""
+    """Subscribes of one subscription at other endpoints."""
+    found = [entry(6, 0, (CLIENT[0] + number // 60000, 1 + number % 60000)) for number in range(LIMIT + 2)]
+    return of_entries(B, A, found, 200)
+
+
+def servers():
+    """Offers of one instance of each service at two endpoints, each of which is stopped before the next."""
     found = []
     for number in range(LIMIT + 2):
-        found += [entry(1, 0, (A[0] + number // 60000, 1 + number % 60000)), entry(1, 0, ttl=0)]
-    return of_entries(A, GROUP, found, 400)
+        served = wire.Entry(1, number % LIMIT, 1, 1, 3, 0, 0, (SERVER[0], SERVER[1] + number // LIMIT))
+        found += [served, served._replace(ttl=0, endpoint=None)]
+    return of_entries(A, GROUP, found, 4000)
 
 
 # The table that each fills, what makes the recording, and the number of the datagram that finds no room, counted by hand.
@@ -117,7 +132,8 @@ CROWDS = {"calls": ("calls", calls, 1 + FULL), "answered calls": ("calls", answe
           "sessions": ("sessions", sessions, LIMIT + 1), "offers": ("offers", offers, FULL),
           "subscriptions": ("subscriptions", subscriptions, 2 * LIMIT // 4000 + 1),
           "receivers": ("receivers", receivers, 2 * FULL - 1),
-          "events": ("events", events, 1 + FULL), "gaps": ("gaps", gaps, 2), "endpoints": ("endpoints", endpoints, 2 * LIMIT // 400 + 1)}
+          "events": ("events", events, 1 + FULL), "gaps": ("gaps", gaps, 2), "ways": ("ways", ways, LIMIT + 2),
+          "endpoints": ("endpoints", endpoints, LIMIT // 200 + 1), "servers": ("servers", servers, 2 * LIMIT // 4000 + 1)}
 
 
 def told(table, records, number):
@@ -126,4 +142,4 @@ def told(table, records, number):
     found = records[number - 1]
     ends = " ".join(map(wire.endpoint_text, found[1:3]))
     return (f"{found.time // SECOND}.{found.time % SECOND:09} {number} {ends} full {table}\n"
-            f"audited {len(records)} datagrams, {messages} messages, 1 findings\nfull 1\n")
+            f"audited {len(records)} datagrams, {messages} messages, 1 findings\nfull 1\n" + unjudged_of(records))

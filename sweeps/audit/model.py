@@ -4,7 +4,7 @@ lists of what was seen, and looks back over them for each finding; nothing is fo
     model.py [--ports PORTS] [--answer-ms N] [--settle-ms N] [--overtake-ms N] [--sessions HOW] RECORDING
 """
 import sys
-from collections import defaultdict
+from collections import Counter, defaultdict
 from typing import Callable, NamedTuple, Optional
 
 import wire
@@ -12,9 +12,9 @@ from parts import TIMEOUT, refusal, whole_payload
 from seen import ACK, OFFER, SUBSCRIBE, Datagram, Seen, datagrams_of, looked_at, seen_in
 
 KINDS = ("malformed", "bad run", "no endpoint", "reboot", "sd session", "sd overtaken", "unanswered", "late", "error",
-         "unasked", "repeated", "key reused", "event repeated", "event overtaken", "event gap", "event unsubscribed",
-         "segments", "segments missing", "offer expired", "offer moved", "nack", "subscribe unanswered", "unasked ack",
-         "unasked nack", "full")
+         "unasked", "repeated", "key reused", "interface", "not offered", "event repeated", "event overtaken", "event gap",
+         "event unsubscribed", "segments", "segments missing", "offer expired", "offer moved", "nack",
+         "subscribe unanswered", "unasked ack", "unasked nack", "full")
 CALLS, SEGMENTS, OFFERS, SUBSCRIBES, GAPS = range(5)
 MOST_BEHIND = 64
 FIRST_GROUP = wire.address("224.0.0.0")
@@ -90,6 +90,7 @@ class Audit:
         self.find_calls()
         self.find_errors()
         self.find_offers()
+        self.find_servers()
         self.find_subscribes()
         self.find_unsubscribed()
         self.find_gaps()
@@ -105,6 +106,7 @@ class Audit:
         lines.append(f"audited {len(self.looked)} datagrams, {self.messages} messages, {len(lines)} findings")
         kinds = [finding.kind for finding in told]
         lines += [f"{kind} {kinds.count(kind)}" for kind in KINDS if kind in kinds]
+        lines += unjudged(len(self.datagrams) - len(self.looked), self.seen)
         return "".join(f"{line}\n" for line in lines)
 
     def tell(self, seen, turn, kind, text=""):
@@ -300,6 +302,42 @@ class Audit:
         passed = offer.value.ttl != wire.FOREVER and offer.moment + 1000 * offer.value.ttl <= moment
         return not stopped and not passed and not self.rebooted((sender,), offer.place, place)
 
+    # ---- Servers
+
+    def find_servers(self):
+        """The messages that have another version than their server, and the first REQUEST to each that has ended."""
+        offers, asked = defaultdict(list), set()
+        for seen in self.all_seen("entry"):
+            if seen.value.kind == OFFER and seen.value.ttl and seen.value.endpoint:
+                offers[seen.value.service, seen.value.endpoint].append(seen)
+        ends = self.offer_ends()
+        for seen in self.all_seen("message"):
+            before = [offer for offer in offers[server_of(seen)] if offer.place < seen.place]
+            if not before or self.rebooted((before[-1].sender,), before[-1].place, seen.place):
+                continue
+            header, offer = seen.value[0], before[-1]
+            if not has_ended(offer, ends, seen):
+                if header.interface != offer.value.major:
+                    text = f" {header.interface:02x} expected {offer.value.major:02x} {event_text(header)}"
+                    self.tell(seen, 2, "interface", text)
+            elif is_request(seen) and offer.place not in asked:
+                asked.add(offer.place)
+                self.tell(seen, 2, "not offered", " " + call_text(header))
+
+    def offer_ends(self):
+        """The StopOffers that ended an offer which stood, each with the Offer of that."""
+        found, timelines = [], defaultdict(list)
+        for seen in self.all_seen("entry"):
+            timeline = timelines[seen.value[1:4]]
+            if is_stop(seen.value):
+                last = next((offer for offer in reversed(timeline) if offer.value.ttl), None)
+                is_own = last and last.sender == seen.sender
+                if is_own and self.is_standing(last, timeline, seen.place, seen.moment):
+                    found.append((seen, last))
+            if seen.value.kind == OFFER and (seen.value.endpoint or not seen.value.ttl):
+                timeline.append(seen)
+        return found
+
     # ---- Subscribes
 
     def subscriptions(self):
@@ -375,7 +413,7 @@ class Audit:
                 key = (seen.sender, header.service, header.method, seen.datagram.destination)
                 if key not in told or self.came_subscribe(key, told[key], seen.place):
                     told[key] = seen.place
-                    self.tell(seen, 1, "event unsubscribed", " " + event_text(header))
+                    self.tell(seen, 3, "event unsubscribed", " " + event_text(header))
 
     def came_subscribe(self, key, first, last):
         server, service, _, endpoint = key
@@ -414,9 +452,9 @@ class Audit:
         last = flow[-1] if flow and not self.rebooted(ends, flow[-1].place, seen.place) else None
         text = f" {event_text(header)} session {header.session:04x}"
         if last and last.value[0].session == header.session:
-            return self.tell(seen, 2, "event repeated", text)
+            return self.tell(seen, 4, "event repeated", text)
         if last and 0 < (last.value[0].session - header.session) % 0xFFFF <= MOST_BEHIND:
-            return self.tell(seen, 2, "event overtaken", text) if awaited else None
+            return self.tell(seen, 4, "event overtaken", text) if awaited else None
         flow.append(seen)
         if last and not self.is_excused(last, stream, standings, seen):
             self.note_gap(last.value[0].session, missing, seen)
@@ -427,7 +465,7 @@ class Audit:
         skipped = [(last + ahead) % 0xFFFF or 0xFFFF for ahead in range(1, (header.session - last) % 0xFFFF)]
         if len(skipped) > MOST_BEHIND:
             text = f" {event_text(header)} session {skipped[0]:04x} to {skipped[-1]:04x}"
-            return self.tell(seen, 2, "event gap", text)
+            return self.tell(seen, 4, "event gap", text)
         for session in skipped:
             if not waiting(missing, session, seen):
                 missing.append(Missing(session, seen, seen.moment + self.rules.overtake))
@@ -458,6 +496,21 @@ def is_request(seen):
 
 def excerpt(seen):
     return len(seen.value[1]), seen.value[1][:64]
+
+
+def server_of(seen):
+    """The server of a message: a REQUEST goes to it, also one without an answer, and any other comes from it."""
+    header = seen.value[0]
+    goes_to = header.kind in (wire.REQUEST, wire.ONEWAY)
+    return header.service, seen.datagram.destination if goes_to else seen.datagram.source
+
+
+def has_ended(offer, ends, seen):
+    """Whether the server of its newest Offer has ended where a message is seen."""
+    passed = offer.value.ttl != wire.FOREVER and offer.moment + 1000 * offer.value.ttl <= seen.moment
+    named = (*offer.value[1:4], offer.value.endpoint)
+    return passed or any(offer.place < stop.place < seen.place and (*ended.value[1:4], ended.value.endpoint) == named
+                         for stop, ended in ends)
 
 
 def is_nack(entry):
@@ -540,6 +593,38 @@ def goes_by(standing, seen):
     is_to = (server, service) == (seen.sender, seen.value[0].service) and standing.endpoint == seen.datagram.destination
     stands = standing.begin < seen.place < standing.end
     return is_to and stands and (standing.passed is None or seen.moment < standing.passed)
+
+
+# ---- What could not be judged
+
+LEAST_ONE_WAY = 8
+
+
+def is_offer(seen):
+    return seen.what == "entry" and seen.value.kind == OFFER and seen.value.ttl > 0
+
+
+def is_of_call(seen):
+    return seen.what == "message" and seen.value[0].kind in (wire.REQUEST, wire.RESPONSE, wire.ERROR)
+
+
+def unjudged(passed, seen):
+    """The last lines of a summary, where so many datagrams were not looked at, and this was seen."""
+    lines = [f"not looked at {passed} datagrams"] if passed else []
+    if not any(map(is_offer, seen)):
+        lines.append("no Offer was seen")
+    ways = Counter((one.datagram.source, one.datagram.destination) for one in seen if is_of_call(one))
+    for (source, destination), number in sorted(ways.items()):
+        if number >= LEAST_ONE_WAY and (destination, source) not in ways:
+            lines.append(f"one way {wire.endpoint_text(source)} {wire.endpoint_text(destination)} {number}")
+    return lines
+
+
+def unjudged_of(records, ports=None):
+    """The same of a recording without segments."""
+    datagrams = datagrams_of(records)
+    looked = looked_at(datagrams, ports, False)
+    return "".join(f"{line}\n" for line in unjudged(len(datagrams) - len(looked), seen_in(looked)[0]))
 
 
 # ---- The command

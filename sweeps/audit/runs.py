@@ -222,6 +222,11 @@ def mirrored(some, records):
     return sorted(records + again, key=lambda record: record.time)
 
 
+def one_sided(records):
+    """The datagrams of a recording that a tap sees of one direction: those to a group, and those that go to higher addresses."""
+    return [record for record in records if record.source[0] < record.destination[0]]
+
+
 def counted_together(records):
     """The datagrams of a recording with the sessions of events as senders give them that count all events together."""
     given, last, found = {}, {}, []

@@ -29,8 +29,8 @@ def discovery(time, source, destination, session, *entries):
     return told(time, f"{source}:30490", f"{destination}:30490", payload)
 
 
-def header(method, client, session, kind, code=0):
-    return wire.Header(0x1111, method, client, session, 1, kind, code)
+def header(method, client, session, kind, code=0, interface=1):
+    return wire.Header(0x1111, method, client, session, interface, kind, code)
 
 
 def call(time, session, payload=b"\1", method=0x0421):
@@ -46,6 +46,11 @@ def answer(time, session):
 def unknown_method(time, session, method):
     message = wire.message(header(method, 0x0102, session, wire.ERROR, 3), b"")
     return told(time, f"{A}:30509", f"{B}:40001", message)
+
+
+def oneway(time, session, interface):
+    message = wire.message(header(0x0424, 0x0102, session, wire.ONEWAY, interface=interface), b"\1")
+    return told(time, f"{B}:40001", f"{A}:30509", message)
 
 
 def event(time, session, receiver=f"{B}:40001"):
@@ -100,6 +105,9 @@ STORY = [
     discovery(31700, A, C, 2, entry(ACK, 0, 3)),
     event(31800, 3),
     event(31850, 2),
+    oneway(31900, 1, 2),
+    discovery(31920, A, GROUP, 2, entry(OFFER, 0)),
+    call(31940, 4),
 ]
 
 if __name__ == "__main__":

@@ -14,13 +14,14 @@ Recordings: what they are; what is expected
     drawn calls, events, Subscribes, StopSubscribes and StopOffers, some with payloads that go in segments. All clocks
     are ticked together, each datagram is delivered at once, and each request is answered in time, by a RESPONSE with
     code 00. Each is tried three times: as it is, as a port that mirrors both directions records it, with `--dedup 5`,
-    and with the sessions of each sender's events counted together, with `--sessions sender`; no finding
+    and with the sessions of each sender's events counted together, with `--sessions sender`; no finding. And once as a
+    tap sees it that has one direction alone; what the model tells
   1000 `rough`: of nodes too, which also begin anew, ask for eventgroups that there are not, offer for a second, and
     answer late or never. Then datagrams of the recording are lost, repeated, swapped or late; what the model tells
   1000 `drawn`: of drawn datagrams, which need make no sense: messages of Service Discovery, calls, events, segments,
     with bytes that are cut or changed, over few addresses and IDs, so that keys meet; with times that go back, stand
     still or are not there, with packets that are no datagrams, and with drawn options; what the model tells
-  10 `crowds`: a table of an audit comes to its limit of 65,536 keys, one for each table; and calls that were answered
+  12 `crowds`: a table of an audit comes to its limit of 65,536 keys, one for each table; and calls that were answered
     fill theirs, in one that goes on while they are known, and in one that goes on when they no longer are; `full
     NAME` at the first thing that finds no room, and nothing else
   the example: `examples/audit.pcap`, as `sweeps/audit/story.py` writes it; `examples/audit.txt`
@@ -48,6 +49,7 @@ KEPT = Path(os.environ.get("TMPDIR", "/tmp")) / "someipctl-audit"
 EXAMPLES = Path(__file__).resolve().parents[2] / "examples"
 WORLDS = 20
 SORTS = ["calm", "rough", "drawn", "crowds"]
+UNJUDGED = ("not looked at ", "no Offer ", "one way ")
 
 
 class Sweep:
@@ -55,6 +57,7 @@ class Sweep:
         self.program, self.seed, self.folder = program, seed, Path(folder)
         self.counts, self.kinds = collections.Counter(), collections.Counter()
         self.calm_types = set()
+        self.unjudged = set()
         self.differences = 0
 
     def generator(self, *words):
@@ -75,7 +78,9 @@ class Sweep:
         findings = int(lines[next(at for at, line in enumerate(lines) if line.startswith("audited "))].split(" ")[-2])
         self.counts[sort] += 1
         self.counts["datagrams"] += int(lines[findings].split(" ")[1])
-        self.kinds.update({line.rpartition(" ")[0]: int(line.rpartition(" ")[2]) for line in lines[findings + 1:]})
+        counted = [line.rpartition(" ") for line in lines[findings + 1:]]
+        self.kinds.update({kind: int(number) for kind, _, number in counted if kind in model.KINDS})
+        self.unjudged.update(line.split(" ")[0] for line in lines[findings + 1:] if line.startswith(UNJUDGED))
         if got != expected or status != int(findings > 0):
             self.keep(f"{sort}-{name}", data, words, expected, got, status)
 
@@ -113,12 +118,15 @@ class Sweep:
             words = some.choice(([], ["--settle-ms", "1"]))
             messages = [header for record in records for _, header, _ in wire.messages_of(record.payload)[0]]
             self.calm_types.update(header.kind for header in messages)
-            expected = f"audited {len(records)} datagrams, {len(messages)} messages, 0 findings\n"
+            expected = (f"audited {len(records)} datagrams, {len(messages)} messages, 0 findings\n"
+                        + model.unjudged_of(records))
             self.judge("calm", number, wire.pcap(records, nanoseconds=True), words, expected)
             twice = wire.pcap(runs.mirrored(some, records), nanoseconds=True)
             self.judge("mirrored", number, twice, words + ["--dedup", "5"], expected)
             together = wire.pcap(runs.counted_together(records), nanoseconds=True)
             self.judge("counted together", number, together, words + ["--sessions", "sender"], expected)
+            one_sided = wire.pcap(runs.one_sided(records), nanoseconds=True)
+            self.judge("one-sided", number, one_sided, words, model.audited(one_sided, model.rules_of(words)[0]))
 
     def rough(self, count):
         for number, some, records in self.worlds("rough", count):
@@ -152,6 +160,7 @@ def missed(sweep, sorts):
         return []
     types = [wire.REQUEST, wire.ONEWAY, wire.NOTIFICATION, wire.RESPONSE, wire.NOTIFICATION | wire.TP]
     kinds = [kind for kind in model.KINDS if kind not in sweep.kinds]
+    kinds += [words.strip() for words in UNJUDGED if words.split(" ")[0] not in sweep.unjudged]
     return kinds + [f"type {kind:02x} in a calm world" for kind in types if kind not in sweep.calm_types]
 
 

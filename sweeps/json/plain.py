@@ -94,9 +94,10 @@ FOUND = {
     "sd-session": lambda line: f"{line['session']} expected {line['expected']}",
     "late": lambda line: f"{line['ms']} ms {call(line)}",
     "error": lambda line: f"{line['code']} {call(line)}",
-    **dict.fromkeys(("unanswered", "unasked", "repeated", "key-reused", "segments-missing"), call),
+    **dict.fromkeys(("unanswered", "unasked", "repeated", "key-reused", "not-offered", "segments-missing"), call),
     **dict.fromkeys(("event-repeated", "event-overtaken", "event-gap"), event_session),
     "event-unsubscribed": lambda line: ids(line, "event"),
+    "interface": lambda line: f"{line['interface']} expected {line['expected']} {ids(line, 'method')}",
     "segments": lambda line: f"{line['name']} {call(line)}",
     **dict.fromkeys(("offer-expired", "offer-moved"), offer),
     **dict.fromkeys(("nack", "subscribe-unanswered", "unasked-ack", "unasked-nack"), subscription),
@@ -104,10 +105,20 @@ FOUND = {
 }
 
 
+# What could not be judged.
+UNJUDGED = {
+    "not-looked-at": lambda line: f"not looked at {line['datagrams']} datagrams",
+    "no-offer": lambda line: "no Offer was seen",
+    "one-way": lambda line: f"one way {line['from']} {line['to']} {line['messages']}",
+}
+
+
 def audited(line):
     """A line of `audit`."""
     if line["kind"] == "audited":
         return f"audited {line['datagrams']} datagrams, {line['messages']} messages, {line['findings']} findings"
+    if line["kind"] in UNJUDGED:
+        return UNJUDGED[line["kind"]](line)
     words = line["kind"].replace("-", " ")
     if "count" in line:
         return f"{words} {line['count']}"

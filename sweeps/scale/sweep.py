@@ -26,7 +26,7 @@ INTERFACES = 65536
 OTHERS = 4096
 ENDPOINTS = 65536
 LINE = "{} message 1111.0001 length 8 client 0000 session 0001 interface 01 type REQUEST_NO_RETURN code 00 payload -\n"
-AUDITED = "audited {0} datagrams, {0} messages, 0 findings\n"
+AUDITED = "audited {0} datagrams, {0} messages, 0 findings\nno Offer was seen\n"
 
 
 # ---- Packets

@@ -72,7 +72,8 @@ def recordings():
         yield ["recording"], data, status, SHOWN if datagrams else "", error
         yield ["recording", "--ports", "1"], data, status, "", error
         # No endpoint is learnt, so the audit looks at no datagram.
-        yield ["audit"], data, status, "audited 0 datagrams, 0 messages, 0 findings\n", error
+        passed = f"not looked at {datagrams} datagrams\n" if datagrams else ""
+        yield ["audit"], data, status, f"audited 0 datagrams, 0 messages, 0 findings\n{passed}no Offer was seen\n", error
 
 
 def recorded():

@@ -3,3 +3,4 @@ pub mod about_events
 pub mod about_gaps
 pub mod about_segments
 pub mod about_sequence
+pub mod about_ways

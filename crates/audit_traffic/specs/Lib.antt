@@ -3,3 +3,4 @@ pub mod events
 pub mod gaps
 pub mod segments
 pub mod sequence
+pub mod ways

@@ -1,5 +1,5 @@
-//! What the sessions of events in a recording show: which event came twice, and which were lost (SOME/IP
-//! Protocol, "Session ID").
+//! What the sessions of events in a recording show: which event came twice, which is behind, and which sessions
+//! it skips (SOME/IP Protocol, "Session ID").
 //!
 //! - [`EventBook`]: the last event of each flow;
 //! - [`Notification`]: what it is told of an event; [`EventFlow`]: which event it is, from whom, and to

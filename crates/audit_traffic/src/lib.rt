@@ -4,7 +4,8 @@
 //! - [`events`]: which event came twice, which is behind, and which sessions it skips;
 //! - [`gaps`]: the sessions of events that are missing, for as long as they may still come;
 //! - [`segments`]: what each segment makes of its message, and which messages stay in part;
-//! - [`sequence`]: which event was overtaken, and which were lost, over `events` and `gaps`.
+//! - [`sequence`]: which event was overtaken, and which were lost, over `events` and `gaps`;
+//! - [`ways`]: between which endpoints messages went one way alone.
 #![tactic(auto)]
 
 pub mod calls;
@@ -12,3 +13,4 @@ pub mod events;
 pub mod gaps;
 pub mod segments;
 pub mod sequence;
+pub mod ways;

@@ -1,5 +1,5 @@
 -- What was told stays at the front of what is told.
-use Rattle.std.proofs.Common.{◌≡◌, ℕ, ◌+◌, ◌==◌, ◌<◌, Bool, true, false, List, [], ◌∷◌, ◌++◌, length, get_or, drop, map, if◌then◌else◌, Option, None, Some, refl, ap, sym, ◌∙◌}
+use Rattle.std.proofs.Common.{◌≡◌, ℕ, ◌+◌, ◌==◌, ◌<◌, Bool, true, false, List, [], ◌∷◌, ◌++◌, length, get_or, drop, map, if◌then◌else◌, Option, None, Some, refl, ap, sym, subst, ◌∙◌}
 use Rattle.std.proofs.lemmas.List.{drop_more}
 use Rattle.std.specs.Prelude.{Result, Ok, Err, max, option_map}
 use Rattle.std.specs.Result.{OnErr}
@@ -27,16 +27,19 @@ use Rattle.audit_traffic.specs.segments.SegmentBooks as segments
 use Rattle.someip_audit.specs.declared.finding.Finding.TheVariants as findings
 use Rattle.sd_wire.specs.declared.error.SdError.{SdError}
 use Rattle.audit_traffic.specs.sequence.Sequences as events
+use Rattle.audit_traffic.specs.ways.WayTables as ways
 use Rattle.someip_wire.specs.Reading.{items_of}
 use Rattle.someip_audit.specs.Audits.{Seen, datagram_shown, seen_work, without_passed}
 use Rattle.someip_audit.specs.WatchedEndpoints.{is_at_discovery, is_looked_at}
 use Rattle.someip_audit.specs.AnyShown.{any_shown, in_datagram, is_sd, item_len, item_shown, items_shown, payload_shown}
-use Rattle.someip_audit.specs.MessageShown.{call_shown, code_shown, delivery, event_flow, event_seen, event_shown, flow_shown, has_no_tp_header, is_event, message_shown, piece_shown, segment_at, segment_held, segment_shown, segment_told, told_of_code, whole_shown}
+use Rattle.someip_audit.specs.MessageShown.{call_shown, code_shown, delivery, event_flow, event_seen, event_shown, flow_shown, has_no_tp_header, is_event, is_of_call, judged_shown, message_shown, piece_shown, rest_shown, segment_at, segment_held, segment_shown, segment_told, told_of_code, told_of_way, way_of, way_shown, whole_shown, whole_taken}
+use Rattle.audit_sd.specs.declared.offers.entry.OfferEntry.{OfferEntry}
+use Rattle.audit_sd.specs.declared.receivers.entry.WithdrawnOffer.{WithdrawnOffer}
 use Rattle.audit_sd.specs.declared.subscriptions.entry.SubscribeEntry.{SubscribeEntry}
 use Rattle.audit_sd.specs.declared.receivers.entry.ReceiverEntry.{ReceiverEntry}
 use Rattle.someip_audit.specs.declared.finding.Finding.{Finding}
 use Rattle.someip_audit.specs.SdEntries.{named_endpoint, offer_entry, receiver_entry, sd_message, subscribe_entry, withdrawn_offer}
-use Rattle.someip_audit.specs.SdShown.{IsBegun, IsFront, Work, changed, endpoint_shown, entries_shown, entry_shown, good_shown, group_shown, group_taken, head_shown, offer_shown, options_shown, receiver_shown, sd_shown, service_shown, session_shown, subscribe_shown, taken_shown, told_of_options, told_unasked, unasked_shown, with_told, withdrawn, working}
+use Rattle.someip_audit.specs.SdShown.{IsBegun, IsFront, Work, changed, ended_shown, endpoint_shown, entries_shown, entry_shown, good_shown, group_shown, group_taken, head_shown, offer_noted, offer_shown, offered_shown, options_shown, receiver_shown, sd_shown, server_shown, service_shown, session_shown, stop_shown, subscribe_shown, taken_shown, told_of_options, told_unasked, unasked_shown, with_told, working}
 
 nothing_more : (xs : List Finding) → xs ++ [] ≡ xs
 nothing_more [] = refl
@@ -58,16 +61,29 @@ front_told (Some finding) told = (finding ∷ [], refl)
 
 -- ---- each step only adds
 
+server_front : (now : ℕ) (entry : OfferEntry) (endpoint : Option SocketAddrV4) (work : Work) → IsFront work.told (server_shown now entry endpoint work).told
+server_front now entry None work = front_same work.told
+server_front now entry (Some endpoint) work = front_told _ work.told
+
+offer_front : (now : ℕ) (entry : OfferEntry) (work : Work) → IsFront work.told (offer_shown now entry work).told
+offer_front now entry work = front_told _ work.told
+
+pub offered_front : (now : ℕ) (entry : OfferEntry) (work : Work) → IsFront work.told (offered_shown now entry work).told
+offered_front now entry work =
+    front_further work.told (offer_shown now entry work).told _ (offer_front now entry work) (server_front now entry entry.endpoint (offer_shown now entry work))
+
+stop_front : (now : ℕ) (offer : WithdrawnOffer) (entry : OfferEntry) (work : Work) → IsFront work.told (stop_shown now offer entry work).told
+stop_front now offer entry work = offer_front now entry (ended_shown entry work)
+
 pub service_front : (kind : ServiceKind) (now : ℕ) (origin : Origin) (entry : ServiceEntry) (endpoint : Option SocketAddrV4) (work : Work) → IsFront work.told (service_shown kind now origin entry endpoint work).told
 service_front Find now origin entry endpoint work = front_same work.told
 service_front Offer now origin entry endpoint work = cases (entry.ttl == 0)
   where
-    shown : Work
-    shown = offer_shown now (offer_entry origin entry endpoint) work
-
-    cases : (b : Bool) → IsFront work.told (if b then withdrawn (withdrawn_offer origin entry) (offer_shown now (offer_entry origin entry endpoint) work) else offer_shown now (offer_entry origin entry endpoint) work).told
-    cases true = front_told _ work.told
-    cases false = front_told _ work.told
+    cases : (b : Bool)
+        → IsFront work.told
+        (if b then stop_shown now (withdrawn_offer origin entry) (offer_entry origin entry endpoint) work else offered_shown now (offer_entry origin entry endpoint) work).told
+    cases true = stop_front now (withdrawn_offer origin entry) (offer_entry origin entry endpoint) work
+    cases false = offered_front now (offer_entry origin entry endpoint) work
 
 pub subscribe_front : (now : ℕ) (entry : SubscribeEntry) (work : Work) → IsFront work.told (subscribe_shown now entry work).told
 subscribe_front now entry work = front_told _ work.told
@@ -105,7 +121,7 @@ taken_front now origin (bad_run head) work = head_front now origin head None wor
 
 pub entry_front : (now : ℕ) (origin : Origin) (entry : ReadValue) (work : Work) → IsFront work.told (entry_shown now origin entry work).told
 entry_front now origin entry work =
-    let noted : Work = options_shown entry work in
+    let noted : Work = options_shown entry (record work { held = offer_noted entry work.held }) in
     front_further work.told noted.told _ (front_told (told_of_options entry) work.told) (taken_front now origin entry noted)
 
 pub entries_front : (now : ℕ) (origin : Origin) (entries : List ReadValue) (work : Work) → IsFront work.told (entries_shown now origin entries work).told
@@ -163,14 +179,14 @@ group_begun now entry endpoint shown held told more new shows is begun =
     let at : more ≡ with_told (told_unasked now entry held) told = is ∙ ap (λ finding. with_told finding told) shows in
     begun_later told (with_told (told_unasked now entry held) told) new _ (front_told (told_unasked now entry held) told) (rw at at begun)
 
--- what the options of an entry show was told, and then some of the entry was shown
-pub entry_begun : (now : ℕ) (origin : Origin) (entry : ReadValue) (shown : Option Finding) (held : Held) (told more new : List Finding)
-    → shown ≡ told_of_options entry → more ≡ with_told shown told
-    → IsBegun more new (taken_shown now origin entry (working held more)).told
+-- whether it is an Offer was kept, what the options of an entry show was told, and then some of the entry was shown
+pub entry_begun : (now : ℕ) (origin : Origin) (entry : ReadValue) (shown : Option Finding) (held noted : Held) (told more new : List Finding)
+    → noted ≡ offer_noted entry held → shown ≡ told_of_options entry → more ≡ with_told shown told
+    → IsBegun more new (taken_shown now origin entry (working noted more)).told
     → IsBegun told new (entry_shown now origin entry (working held told)).told
-entry_begun now origin entry shown held told more new shows is begun =
+entry_begun now origin entry shown held noted told more new notes shows is begun =
     let at : more ≡ with_told (told_of_options entry) told = is ∙ ap (λ finding. with_told finding told) shows in
-    begun_later told (with_told (told_of_options entry) told) new _ (front_told (told_of_options entry) told) (rw at at begun)
+    begun_later told (with_told (told_of_options entry) told) new _ (front_told (told_of_options entry) told) (rw (at, notes) at begun)
 
 -- an endpoint was learnt, and then some of the entry was shown
 pub good_begun : (now : ℕ) (origin : Origin) (head : EntryHead) (endpoint named : Option SocketAddrV4) (held mid : Held) (told more new : List Finding)
@@ -232,20 +248,61 @@ coded_front now origin header payload work =
     let called : Work = call_shown now origin header payload work in
     front_further work.told called.told _ (front_told _ work.told) (front_told (told_of_code header) called.told)
 
--- who is subscribed to its event, and what it shows by its session
-rest_front : (now : ℕ) (origin : Origin) (header : Header) (work : Work) → IsFront work.told (flow_shown now origin header (event_shown now origin header work)).told
-rest_front now origin header work =
+-- what it shows of its server, who is subscribed to its event, and what it shows by its session
+judged_front : (now : ℕ) (origin : Origin) (header : Header) (work : Work) → IsFront work.told (judged_shown now origin header work).told
+judged_front now origin header work = front_told _ work.told
+
+late_front : (now : ℕ) (origin : Origin) (header : Header) (work : Work) → IsFront work.told (flow_shown now origin header (event_shown now origin header work)).told
+late_front now origin header work =
     let heard : Work = event_shown now origin header work in
     front_further work.told heard.told _ (event_front now origin header work) (flow_front now origin header heard)
+
+pub rest_front : (now : ℕ) (origin : Origin) (header : Header) (work : Work) → IsFront work.told (rest_shown now origin header work).told
+rest_front now origin header work =
+    let judged : Work = judged_shown now origin header work in
+    front_further work.told judged.told _ (judged_front now origin header work) (late_front now origin header judged)
 
 pub whole_front : (now : ℕ) (origin : Origin) (header : Header) (payload : List ℕ) (work : Work) → IsFront work.told (whole_shown now origin header payload work).told
 whole_front now origin header payload work =
     let coded : Work = code_shown header (call_shown now origin header payload work) in
     front_further work.told coded.told _ (coded_front now origin header payload work) (rest_front now origin header coded)
 
+way_front : (origin : Origin) (header : Header) (work : Work) → IsFront work.told (way_shown origin header work).told
+way_front origin header work = cases (is_of_call header)
+  where
+    cases : (b : Bool)
+        → IsFront work.told
+        (if b
+        then record { held = record work.held { ways = ways.after_message (way_of origin) work.held.ways }; told = with_told (told_of_way (ways.told_by (way_of origin) work.held.ways)) work.told }
+        else work).told
+    cases true = front_told _ work.told
+    cases false = front_same work.told
+
+pub whole_taken_front : (now : ℕ) (origin : Origin) (header : Header) (payload : List ℕ) (work : Work) → IsFront work.told (whole_taken now origin header payload work).told
+unfolding whole_taken
+whole_taken_front now origin header payload work =
+    let shown : Work = whole_shown now origin header payload work in
+    front_further work.told shown.told _ (whole_front now origin header payload work) (way_front origin header shown)
+
+-- some of what it shows was told
+pub whole_taken_begun : (now : ℕ) (origin : Origin) (header : Header) (payload : List ℕ) (work : Work) (told new : List Finding)
+    → IsBegun told new (whole_shown now origin header payload work).told → IsBegun told new (whole_taken now origin header payload work).told
+unfolding whole_taken
+whole_taken_begun now origin header payload work told new begun = begun_sooner told new _ _ begun (way_front origin header (whole_shown now origin header payload work))
+
+-- all that it shows was told, and nothing more
+pub whole_told : (now : ℕ) (origin : Origin) (header : Header) (payload : List ℕ) (held mid : Held) (told more new : List Finding)
+    → working mid more ≡ whole_shown now origin header payload (working held told) → new ≡ more
+    → IsBegun told new (whole_taken now origin header payload (working held told)).told
+unfolding whole_taken
+whole_told now origin header payload held mid told more new is same =
+    let shown : Work = whole_shown now origin header payload (working held told) in
+    let at : more ≡ shown.told = ap (λ (w : Work). w.told) is in
+    rw (same, at) (whole_front now origin header payload (working held told), way_front origin header shown)
+
 pub segment_told_front : (now : ℕ) (origin : Origin) (header : Header) (told : Option (Result MessageValue TpError)) (work : Work) → IsFront work.told (segment_told now origin header told work).told
 segment_told_front now origin header None work = front_same work.told
-segment_told_front now origin header (Some (Ok message)) work = whole_front now origin message.header message.payload work
+segment_told_front now origin header (Some (Ok message)) work = whole_taken_front now origin message.header message.payload work
 segment_told_front now origin header (Some (Err refusal)) work = front_told (Some (findings.Segment header refusal)) work.told
 
 pub piece_front : (now : ℕ) (origin : Origin) (message : MessageValue) (work : Work) → IsFront work.told (piece_shown now origin message work).told
@@ -270,9 +327,9 @@ segment_at_front now origin place message work = cases (is_at_discovery origin)
 message_front : (now : ℕ) (origin : Origin) (place : ℕ) (message : MessageValue) (work : Work) → IsFront work.told (message_shown now origin place message work).told
 message_front now origin place message work = cases (has_tp_flag message.header.kind)
   where
-    cases : (b : Bool) → IsFront work.told (if b then segment_at now origin place message work else whole_shown now origin message.header message.payload work).told
+    cases : (b : Bool) → IsFront work.told (if b then segment_at now origin place message work else whole_taken now origin message.header message.payload work).told
     cases true = segment_at_front now origin place message work
-    cases false = whole_front now origin message.header message.payload work
+    cases false = whole_taken_front now origin message.header message.payload work
 
 -- its call was shown, and nothing more
 pub whole_begun : (now : ℕ) (origin : Origin) (header : Header) (payload : List ℕ) (held : Held) (told : List Finding) (mid : Held) (more new : List Finding)
@@ -290,25 +347,40 @@ coded_same : (now : ℕ) (origin : Origin) (header : Header) (payload : List ℕ
 coded_same now origin header payload shown held told mid more noted is shows notes =
     ap (λ all. working mid all) (notes ∙ ap (λ finding. with_told finding more) shows) ∙ ap (code_shown header) is
 
--- and nothing more
+-- and then some of the rest
 pub coded_begun : (now : ℕ) (origin : Origin) (header : Header) (payload : List ℕ) (shown : Option Finding) (held : Held) (told : List Finding) (mid : Held) (more noted new : List Finding)
-    → working mid more ≡ call_shown now origin header payload (working held told) → shown ≡ told_of_code header → noted ≡ with_told shown more → new ≡ noted
-    → IsBegun told new (whole_shown now origin header payload (working held told)).told
-coded_begun now origin header payload shown held told mid more noted new is shows notes same =
-    let coded : Work = code_shown header (call_shown now origin header payload (working held told)) in
-    let at : noted ≡ coded.told = ap (λ (w : Work). w.told) (coded_same now origin header payload shown held told mid more noted is shows notes) in
-    rw (same, at) (coded_front now origin header payload (working held told), rest_front now origin header coded)
+    → working mid more ≡ call_shown now origin header payload (working held told) → shown ≡ told_of_code header → noted ≡ with_told shown more
+    → IsBegun noted new (rest_shown now origin header (working mid noted)).told → IsBegun told new (whole_shown now origin header payload (working held told)).told
+coded_begun now origin header payload shown held told mid more noted new is shows notes begun =
+    let same : working mid noted ≡ code_shown header (call_shown now origin header payload (working held told)) = coded_same now origin header payload shown held told mid more noted is shows notes in
+    begun_later told noted new _ (front_moved told noted mid _ same (coded_front now origin header payload (working held told)))
+    (subst (λ (w : Work). IsBegun noted new (rest_shown now origin header w).told) same begun)
+
+-- its server was shown, and nothing more
+pub judged_begun : (now : ℕ) (origin : Origin) (header : Header) (held : Held) (told : List Finding) (mid : Held) (more new : List Finding)
+    → working mid more ≡ judged_shown now origin header (working held told) → new ≡ more → IsBegun told new (rest_shown now origin header (working held told)).told
+judged_begun now origin header held told mid more new is same =
+    let judged : Work = judged_shown now origin header (working held told) in
+    let at : more ≡ judged.told = ap (λ (w : Work). w.told) is in
+    rw (same, at) (judged_front now origin header (working held told), late_front now origin header judged)
 
 -- and who is subscribed to its event, and nothing more
-pub heard_begun : (now : ℕ) (origin : Origin) (header : Header) (payload : List ℕ) (shown : Option Finding) (held : Held) (told : List Finding) (mid late : Held) (more noted most new : List Finding)
-    → working mid more ≡ call_shown now origin header payload (working held told) → shown ≡ told_of_code header → noted ≡ with_told shown more
-    → working late most ≡ event_shown now origin header (working mid noted) → new ≡ most
-    → IsBegun told new (whole_shown now origin header payload (working held told)).told
-heard_begun now origin header payload shown held told mid late more noted most new is shows notes hears same =
-    let coded : Work = code_shown header (call_shown now origin header payload (working held told)) in
-    let heard : Work = event_shown now origin header coded in
-    let at : most ≡ heard.told = ap (λ (w : Work). w.told) (hears ∙ ap (event_shown now origin header) (coded_same now origin header payload shown held told mid more noted is shows notes)) in
-    rw (same, at) (front_further told coded.told _ (coded_front now origin header payload (working held told)) (event_front now origin header coded), flow_front now origin header heard)
+pub heard_begun : (now : ℕ) (origin : Origin) (header : Header) (held : Held) (told : List Finding) (mid late : Held) (more most new : List Finding)
+    → working mid more ≡ judged_shown now origin header (working held told) → working late most ≡ event_shown now origin header (working mid more) → new ≡ most
+    → IsBegun told new (rest_shown now origin header (working held told)).told
+heard_begun now origin header held told mid late more most new is hears same =
+    let judged : Work = judged_shown now origin header (working held told) in
+    let heard : Work = event_shown now origin header judged in
+    let at : most ≡ heard.told = ap (λ (w : Work). w.told) (hears ∙ ap (event_shown now origin header) is) in
+    rw (same, at) (front_further told judged.told _ (judged_front now origin header (working held told)) (event_front now origin header judged), flow_front now origin header heard)
+
+-- an Offer was shown, as to the offers, and nothing more
+pub offered_begun : (now : ℕ) (entry : OfferEntry) (held : Held) (told : List Finding) (mid : Held) (more new : List Finding)
+    → working mid more ≡ offer_shown now entry (working held told) → new ≡ more → IsBegun told new (offered_shown now entry (working held told)).told
+offered_begun now entry held told mid more new is same =
+    let offered : Work = offer_shown now entry (working held told) in
+    let at : more ≡ offered.told = ap (λ (w : Work). w.told) is in
+    rw (same, at) (offer_front now entry (working held told), server_front now entry entry.endpoint offered)
 
 pub payload_front : (now : ℕ) (origin : Origin) (place session : ℕ) (read : Result SdValue SdError) (work : Work) → IsFront work.told (payload_shown now origin place session read work).told
 payload_front now origin place session (Ok sd) work = sd_front now origin session sd work

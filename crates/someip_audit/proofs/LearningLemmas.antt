@@ -22,13 +22,17 @@ use Rattle.audit_sd.specs.declared.sessions.finding.Finding.{Finding as SessionF
 use Rattle.audit_sd.specs.declared.sessions.finding.Finding.TheVariants as sessions
 use Rattle.audit_sd.specs.declared.sessions.message.SdMessage.{SdMessage}
 use Rattle.audit_sd.specs.sessions.SessionBooks as session_book
+use Rattle.audit_sd.specs.declared.offers.entry.OfferEntry.{OfferEntry}
+use Rattle.audit_sd.specs.declared.offers.entry.Standing.{Standing}
+use Rattle.audit_sd.specs.declared.offers.key.OfferKey.{OfferKey}
+use Rattle.audit_sd.specs.offers.OfferTables.{ended_by}
 use Rattle.audit_traffic.specs.segments.SegmentBooks as segments
 use Rattle.someip_audit.specs.AnyShown.{is_sd, item_len, item_shown, items_shown, payload_shown}
 use Rattle.someip_audit.specs.BooksHeld.{Held}
 use Rattle.someip_audit.specs.Learning.{learnt_of, learnt_of_item, learnt_of_items, learnt_of_payload, named_by, once_named_by}
-use Rattle.someip_audit.specs.MessageShown.{call_shown, code_shown, event_shown, flow_shown, has_no_tp_header, is_event, message_shown, piece_shown, segment_at, segment_held, segment_shown, segment_told, whole_shown}
-use Rattle.someip_audit.specs.SdEntries.{named_endpoint, sd_message}
-use Rattle.someip_audit.specs.SdShown.{Work, after_session, endpoint_shown, entries_shown, entry_shown, head_shown, options_shown, service_shown, session_shown, taken_shown}
+use Rattle.someip_audit.specs.MessageShown.{call_shown, code_shown, event_shown, flow_shown, has_no_tp_header, is_event, is_of_call, judged_shown, message_shown, piece_shown, segment_at, segment_held, segment_shown, segment_told, whole_shown, whole_taken}
+use Rattle.someip_audit.specs.SdEntries.{named_endpoint, offer_entry, offers_by, sd_message, withdrawn_offer}
+use Rattle.someip_audit.specs.SdShown.{Work, after_session, endpoint_shown, entries_shown, entry_shown, head_of, head_shown, offer_noted, offer_shown, offered_shown, options_shown, server_ended, server_shown, service_shown, session_shown, stop_shown, taken_shown}
 use Rattle.someip_audit.specs.WatchedEndpoints.{Watch, is_at_discovery}
 
 -- what was learnt, of what is worked on
@@ -51,11 +55,18 @@ flow_same now origin header work = if_same (is_notification header.kind) _ work 
 whole_same : (now : ℕ) (origin : Origin) (header : Header) (payload : List ℕ) (work : Work) → learnt (whole_shown now origin header payload work) ≡ learnt work
 whole_same now origin header payload work =
     let coded : Work = code_shown header (call_shown now origin header payload work) in
-    flow_same now origin header (event_shown now origin header coded) ∙ event_same now origin header coded
+    let judged : Work = judged_shown now origin header coded in
+    flow_same now origin header (event_shown now origin header judged) ∙ event_same now origin header judged
+
+whole_taken_same : (now : ℕ) (origin : Origin) (header : Header) (payload : List ℕ) (work : Work) → learnt (whole_taken now origin header payload work) ≡ learnt work
+unfolding whole_taken
+whole_taken_same now origin header payload work =
+    let shown : Work = whole_shown now origin header payload work in
+    if_same (is_of_call header) _ shown (learnt shown) refl refl ∙ whole_same now origin header payload work
 
 told_same : (now : ℕ) (origin : Origin) (header : Header) (told : Option (Result MessageValue TpError)) (work : Work) → learnt (segment_told now origin header told work) ≡ learnt work
 told_same now origin header None work = refl
-told_same now origin header (Some (Ok message)) work = whole_same now origin message.header message.payload work
+told_same now origin header (Some (Ok message)) work = whole_taken_same now origin message.header message.payload work
 told_same now origin header (Some (Err refusal)) work = refl
 
 piece_same : (now : ℕ) (origin : Origin) (message : MessageValue) (work : Work) → learnt (piece_shown now origin message work) ≡ learnt work
@@ -73,15 +84,26 @@ at_same now origin place message work =
 
 message_same : (now : ℕ) (origin : Origin) (place : ℕ) (message : MessageValue) (work : Work) → learnt (message_shown now origin place message work) ≡ learnt work
 message_same now origin place message work =
-    if_same (has_tp_flag message.header.kind) (segment_at now origin place message work) (whole_shown now origin message.header message.payload work) (learnt work)
-    (at_same now origin place message work) (whole_same now origin message.header message.payload work)
+    if_same (has_tp_flag message.header.kind) (segment_at now origin place message work) (whole_taken now origin message.header message.payload work) (learnt work)
+    (at_same now origin place message work) (whole_taken_same now origin message.header message.payload work)
 
 -- ---- a message of Service Discovery
+
+ended_same : (key : OfferKey) (offer : Option Standing) (held : Held) → (server_ended key offer held).watched ≡ held.watched
+ended_same key None held = refl
+ended_same key (Some offer) held = refl
+
+server_same : (now : ℕ) (entry : OfferEntry) (endpoint : Option SocketAddrV4) (work : Work) → learnt (server_shown now entry endpoint work) ≡ learnt work
+server_same now entry None work = refl
+server_same now entry (Some endpoint) work = refl
 
 service_same : (kind : ServiceKind) (now : ℕ) (origin : Origin) (entry : ServiceEntry) (endpoint : Option SocketAddrV4) (work : Work)
     → learnt (service_shown kind now origin entry endpoint work) ≡ learnt work
 service_same Find now origin entry endpoint work = refl
-service_same Offer now origin entry endpoint work = if_same (entry.ttl == 0) _ _ (learnt work) refl refl
+service_same Offer now origin entry endpoint work =
+    let offer : OfferEntry = offer_entry origin entry endpoint in
+    if_same (entry.ttl == 0) (stop_shown now (withdrawn_offer origin entry) offer work) (offered_shown now offer work) (learnt work)
+    (ended_same offer.key (ended_by offer work.held.offers) work.held) (server_same now offer endpoint (offer_shown now offer work))
 
 head_same : (now : ℕ) (origin : Origin) (head : EntryHead) (endpoint : Option SocketAddrV4) (work : Work) → learnt (head_shown now origin head endpoint work) ≡ learnt work
 head_same now origin (Service entry) endpoint work = service_same entry.kind now origin entry endpoint work
@@ -97,8 +119,17 @@ taken_learnt now origin (good entry) work =
     head_same now origin entry.head (first_udp_endpoint (options_of entry)) (endpoint_shown named work) ∙ endpoint_learnt named work
 taken_learnt now origin (bad_run head) work = head_same now origin head None work
 
+noted_same : (entry : ReadValue) (held : Held) → (offer_noted entry held).watched ≡ held.watched
+noted_same entry held = cases (offers_by (head_of entry))
+  where
+    cases : (b : Bool) → (if b then record held { is_offered = true } else held).watched ≡ held.watched
+    cases true = refl
+    cases false = refl
+
 entry_learnt : (now : ℕ) (origin : Origin) (entry : ReadValue) (work : Work) → learnt (entry_shown now origin entry work) ≡ once_named_by (named_by entry) (learnt work)
-entry_learnt now origin entry work = taken_learnt now origin entry (options_shown entry work)
+entry_learnt now origin entry work =
+    taken_learnt now origin entry (options_shown entry (record work { held = offer_noted entry work.held }))
+    ∙ ap (once_named_by (named_by entry)) (noted_same entry work.held)
 
 entries_learnt : (now : ℕ) (origin : Origin) (entries : List ReadValue) (work : Work) → learnt (entries_shown now origin entries work) ≡ learnt_of entries (learnt work)
 entries_learnt now origin [] work = refl

@@ -1,26 +1,34 @@
 -- What a message that is none of Service Discovery shows over all books.
-use Rattle.std.specs.Prelude.{ℕ, nat_lt, max, Bool, ◌&&◌, not, ◌==◌, if◌then◌else◌, List, slice_index, length, Option, None, Some, option_map, Result, Ok, Err}
+use Rattle.std.specs.Prelude.{ℕ, nat_lt, max, Bool, ◌&&◌, ◌||◌, not, ◌==◌, if◌then◌else◌, List, slice_index, length, Option, None, Some, option_map, Result, Ok, Err, true, false}
 use Rattle.std.specs.Net.Addr.{ipv4_octets}
 use Rattle.std.specs.Net.Socket.{v4_ip}
 use Rattle.std.specs.declared.net.socket_addr.SocketAddrV4.{SocketAddrV4}
 use Rattle.someip_wire.specs.declared.header.Header.{Header}
+use Rattle.someip_wire.specs.declared.header.MessageType.{MessageType}
+use Rattle.someip_wire.specs.declared.header.MessageType.TheVariants as kinds
 use Rattle.someip_wire.specs.Discovery.{is_notification}
 use Rattle.someip_wire.specs.Kinds.{has_tp_flag}
 use Rattle.someip_wire.specs.Spelling.{MessageValue}
 use Rattle.someip_reassembly.specs.declared.error.TpError.{TpError}
 use Rattle.someip_tables.specs.declared.hashed.origin.Origin.{Origin}
 use Rattle.audit_traffic.specs.calls.CallBooks as calls
-use Rattle.audit_traffic.specs.calls.CallFindings.{is_answer_type}
+use Rattle.audit_traffic.specs.calls.CallFindings.{is_answer_type, is_request_type}
 use Rattle.audit_traffic.specs.calls.Tapped.{Tapped}
 use Rattle.audit_traffic.specs.segments.SegmentBooks as segments
 use Rattle.audit_sd.specs.declared.receivers.delivery.Delivery.{Delivery}
 use Rattle.audit_sd.specs.receivers.ReceiverTables as receivers
+use Rattle.audit_sd.specs.declared.servers.message.ServerMessage.{ServerMessage}
+use Rattle.audit_sd.specs.servers.ServerTables as servers
 use Rattle.audit_traffic.specs.declared.events.flow.EventFlow.{EventFlow}
 use Rattle.audit_traffic.specs.declared.events.notification.Notification.{Notification as EventSeen}
 use Rattle.audit_traffic.specs.sequence.Sequences as events
+use Rattle.audit_traffic.specs.declared.ways.finding.Finding.{Finding as WayFinding}
+use Rattle.audit_traffic.specs.declared.ways.way.Way.{Way}
+use Rattle.audit_traffic.specs.ways.WayTables as ways
 use Rattle.someip_audit.specs.declared.finding.Finding.{Finding}
 use Rattle.someip_audit.specs.declared.finding.Finding.TheVariants as findings
 use Rattle.someip_audit.specs.BooksHeld.{Held}
+use Rattle.someip_audit.specs.SdEntries.{server_key}
 use Rattle.someip_audit.specs.SdShown.{Work, with_told}
 use Rattle.someip_audit.specs.WatchedEndpoints.{is_at_discovery}
 
@@ -47,6 +55,33 @@ told_of_code header = if is_error header then Some (findings.Error header) else 
 
 abbrev pub code_shown : Header → Work → Work
 code_shown header work = record work { told = with_told (told_of_code header) work.told }
+
+-- a message of this type goes to the server at its destination, and any other comes from the one at its source
+abbrev pub goes_to_server : MessageType → Bool
+goes_to_server kinds.Request = true
+goes_to_server kinds.RequestNoReturn = true
+goes_to_server kinds.TpRequest = true
+goes_to_server kinds.TpRequestNoReturn = true
+goes_to_server _ = false
+
+abbrev pub server_end : Origin → Header → SocketAddrV4
+server_end origin header = if goes_to_server header.kind then origin.to else origin.from
+
+abbrev pub is_request : MessageType → Bool
+is_request kinds.Request = true
+is_request _ = false
+
+-- a message, as far as its server goes
+abbrev pub server_message : Origin → Header → ServerMessage
+server_message origin header =
+    record { server = server_key header.service (server_end origin header); interface = header.interface; is_request = is_request header.kind }
+
+-- what it shows of its server
+abbrev pub judged_shown : ℕ → Origin → Header → Work → Work
+judged_shown now origin header work = record {
+  held = record work.held { servers = servers.after_message now (server_message origin header) work.held.servers };
+  told = with_told (option_map (findings.Server header) (servers.told_by now (server_message origin header) work.held.servers)) work.told;
+}
 
 -- an endpoint is of one node: its address is none of a group or of all, which begin with 224 and more
 abbrev pub is_unicast : SocketAddrV4 → Bool
@@ -87,16 +122,44 @@ flow_shown now origin header work =
     }
     else work
 
--- what it shows of calls, then by its return code, then of those who are subscribed to its event, and then by the event's session
+-- what it shows of its server, then of those who are subscribed to its event, and then by the event's session
+abbrev pub rest_shown : ℕ → Origin → Header → Work → Work
+rest_shown now origin header work = flow_shown now origin header (event_shown now origin header (judged_shown now origin header work))
+
+-- what it shows of calls, then by its return code, and then the rest
 abbrev pub whole_shown : ℕ → Origin → Header → List ℕ → Work → Work
-whole_shown now origin header payload work = flow_shown now origin header (event_shown now origin header (code_shown header (call_shown now origin header payload work)))
+whole_shown now origin header payload work = rest_shown now origin header (code_shown header (call_shown now origin header payload work))
+
+-- a message wants an answer or is one: a REQUEST, a RESPONSE or an ERROR
+abbrev pub is_of_call : Header → Bool
+is_of_call header = is_request_type header.kind || is_answer_type header.kind
+
+-- the way that it went
+abbrev pub way_of : Origin → Way
+way_of origin = record { from = origin.from; to = origin.to }
+
+-- that the book of ways is full is told
+abbrev pub told_of_way : Option WayFinding → Option Finding
+told_of_way None = None
+told_of_way (Some shown) = Some findings.WaysFull
+
+-- it is counted on its way
+abbrev pub way_shown : Origin → Header → Work → Work
+way_shown origin header work =
+    if is_of_call header
+    then record { held = record work.held { ways = ways.after_message (way_of origin) work.held.ways }; told = with_told (told_of_way (ways.told_by (way_of origin) work.held.ways)) work.told }
+    else work
+
+-- a whole message comes: what it shows, and then it is counted on its way
+unfoldable pub whole_taken : ℕ → Origin → Header → List ℕ → Work → Work
+whole_taken now origin header payload work = way_shown origin header (whole_shown now origin header payload work)
 
 -- ---- a segment
 
 -- what follows from what is told of a segment: its message, if it is whole
 abbrev pub segment_told : ℕ → Origin → Header → Option (Result MessageValue TpError) → Work → Work
 segment_told now origin header None work = work
-segment_told now origin header (Some (Ok message)) work = whole_shown now origin message.header message.payload work
+segment_told now origin header (Some (Ok message)) work = whole_taken now origin message.header message.payload work
 segment_told now origin header (Some (Err refusal)) work = record work { told = with_told (Some (findings.Segment header refusal)) work.told }
 
 -- the books once it came
@@ -130,4 +193,4 @@ segment_at now origin place message work = if is_at_discovery origin then work e
 abbrev pub message_shown : ℕ → Origin → ℕ → MessageValue → Work → Work
 message_shown now origin place message work =
     if has_tp_flag message.header.kind then segment_at now origin place message work
-    else whole_shown now origin message.header message.payload work
+    else whole_taken now origin message.header message.payload work

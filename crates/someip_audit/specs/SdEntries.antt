@@ -16,6 +16,9 @@ use Rattle.someip_tables.specs.declared.hashed.origin.Origin.{Origin}
 use Rattle.audit_sd.specs.declared.sessions.message.SdMessage.{SdMessage}
 use Rattle.audit_sd.specs.declared.offers.entry.OfferEntry.{OfferEntry}
 use Rattle.audit_sd.specs.declared.offers.key.OfferKey.{OfferKey}
+use Rattle.audit_sd.specs.declared.servers.key.ServerKey.{ServerKey}
+use Rattle.audit_sd.specs.declared.servers.offer.Served.{Served}
+use Rattle.audit_sd.specs.declared.servers.offer.ServerOffer.{ServerOffer}
 use Rattle.audit_sd.specs.declared.subscriptions.entry.EntryKind.{EntryKind}
 use Rattle.audit_sd.specs.declared.subscriptions.entry.EntryKind.TheVariants.{Answer, Subscribe}
 use Rattle.audit_sd.specs.declared.subscriptions.entry.SubscribeEntry.{SubscribeEntry}
@@ -42,6 +45,19 @@ offer_key entry = record { service = entry.service; instance = entry.instance; m
 -- an Offer or a StopOffer, with the first IPv4 endpoint over UDP among its options, if it has one
 abbrev pub offer_entry : Origin → ServiceEntry → Option SocketAddrV4 → OfferEntry
 offer_entry origin entry endpoint = record { key = offer_key entry; endpoint = endpoint; ttl = entry.ttl; origin = origin }
+
+-- the server of a service at an endpoint
+abbrev pub server_key : ℕ → SocketAddrV4 → ServerKey
+server_key service endpoint = record { service = service; endpoint = endpoint }
+
+-- what an offer offers of its service
+abbrev pub served_by : OfferKey → Served
+served_by key = record { instance = key.instance; major = key.major }
+
+-- an Offer with an endpoint, as far as it names a server
+abbrev pub server_offer : OfferEntry → SocketAddrV4 → ServerOffer
+server_offer entry endpoint =
+    record { server = server_key entry.key.service endpoint; served = served_by entry.key; ttl = entry.ttl; sender = v4_ip entry.origin.from }
 
 -- the offer that a StopOffer withdraws
 abbrev pub withdrawn_offer : Origin → ServiceEntry → WithdrawnOffer
@@ -118,3 +134,8 @@ needs_endpoint (Eventgroup entry) = subscribes entry.kind
 abbrev pub lacks_endpoint : EntryHead → Option SocketAddrV4 → Bool
 lacks_endpoint head None = needs_endpoint head
 lacks_endpoint head (Some endpoint) = false
+
+-- an entry with this head is an Offer
+abbrev pub offers_by : EntryHead → Bool
+offers_by (Service entry) = is_offer entry
+offers_by (Eventgroup entry) = false

@@ -1,5 +1,5 @@
 -- Entries of Service Discovery, and what falls due, that the laws speak of as examples.
-use Rattle.std.specs.Prelude.{ℕ, false, List, [], ◌∷◌, ◌++◌}
+use Rattle.std.specs.Prelude.{ℕ, true, false, List, [], ◌∷◌, ◌++◌}
 use Rattle.sd_wire.specs.declared.entry.EventgroupEntry.{EventgroupEntry}
 use Rattle.sd_wire.specs.declared.entry.EventgroupKind.{EventgroupKind}
 use Rattle.sd_wire.specs.declared.entry.EntryHead.TheVariants.{Service, Eventgroup}
@@ -82,3 +82,7 @@ segment_with payload = record { header = header_with 5 kinds.TpNotification; pay
 -- a finding more was told
 abbrev pub once_told : Finding → Work → Work
 once_told finding work = record work { told = work.told ++ finding ∷ [] }
+
+-- an Offer was seen
+abbrev pub once_offered : Work → Work
+once_offered work = record work { held = record work.held { is_offered = true } }

@@ -1,5 +1,5 @@
 -- What a message of Service Discovery shows over all books.
-use Rattle.std.specs.Prelude.{◌≡◌, ℕ, ◌==◌, if◌then◌else◌, List, [], ◌∷◌, ◌++◌, Option, None, Some, option_map}
+use Rattle.std.specs.Prelude.{◌≡◌, ℕ, ◌==◌, Bool, true, false, if◌then◌else◌, List, [], ◌∷◌, ◌++◌, Option, None, Some, option_map}
 use Rattle.std.specs.declared.net.ipv4_addr.Ipv4Addr.{Ipv4Addr}
 use Rattle.std.specs.declared.net.socket_addr.SocketAddrV4.{SocketAddrV4}
 use Rattle.sd_wire.specs.declared.entry.EntryHead.{EntryHead}
@@ -15,7 +15,10 @@ use Rattle.audit_sd.specs.declared.sessions.finding.Finding.{Finding as SessionF
 use Rattle.audit_sd.specs.declared.sessions.finding.Finding.TheVariants as sessions
 use Rattle.audit_sd.specs.sessions.SessionBooks as session_book
 use Rattle.audit_sd.specs.declared.offers.entry.OfferEntry.{OfferEntry}
+use Rattle.audit_sd.specs.declared.offers.entry.Standing.{Standing}
+use Rattle.audit_sd.specs.declared.offers.key.OfferKey.{OfferKey}
 use Rattle.audit_sd.specs.offers.OfferTables as offers
+use Rattle.audit_sd.specs.servers.ServerTables as servers
 use Rattle.audit_sd.specs.declared.subscriptions.entry.SubscribeEntry.{SubscribeEntry}
 use Rattle.audit_sd.specs.subscriptions.SubscribeTables as subscriptions
 use Rattle.audit_sd.specs.declared.receivers.entry.ReceiverEntry.{ReceiverEntry}
@@ -26,7 +29,7 @@ use Rattle.audit_traffic.specs.sequence.Sequences as events
 use Rattle.someip_audit.specs.declared.finding.Finding.{Finding}
 use Rattle.someip_audit.specs.declared.finding.Finding.TheVariants as findings
 use Rattle.someip_audit.specs.BooksHeld.{Held}
-use Rattle.someip_audit.specs.SdEntries.{instance_of, lacks_endpoint, named_endpoint, offer_entry, receiver_entry, sd_message, subscribe_entry, withdrawn_offer}
+use Rattle.someip_audit.specs.SdEntries.{instance_of, lacks_endpoint, named_endpoint, offer_entry, offers_by, receiver_entry, sd_message, served_by, server_key, server_offer, subscribe_entry, withdrawn_offer}
 use Rattle.someip_audit.specs.WatchedEndpoints as watching
 
 -- what the books hold, and what was told so far
@@ -44,12 +47,13 @@ with_told (Some finding) told = told ++ finding ∷ []
 
 -- ---- its sessions
 
--- a sender began again: what it offered and subscribed, and what was subscribed at it, ends, and the events from it and to it are
--- forgotten
+-- a sender began again: what it offered and subscribed, and what was subscribed at it, ends, and the servers of its newest Offers
+-- and the events from it and to it are forgotten
 abbrev pub begun_again : Ipv4Addr → Held → Held
 begun_again address held =
     record held {
       offers = offers.without_sender address held.offers;
+      servers = servers.without_sender address held.servers;
       subscriptions = subscriptions.without address held.subscriptions;
       receivers = receivers.without address held.receivers;
       events = events.without address held.events;
@@ -82,12 +86,41 @@ withdrawn offer work =
       held = record work.held { receivers = receivers.without_offer offer work.held.receivers; events = events.after_withdrawal offer.server offer.service work.held.events };
     }
 
+-- that there is no room for a server is told
+abbrev pub told_of_servers : Bool → Option Finding
+told_of_servers true = Some findings.ServersFull
+told_of_servers false = None
+
+-- an Offer with an endpoint names a server
+abbrev pub server_shown : ℕ → OfferEntry → Option SocketAddrV4 → Work → Work
+server_shown now entry None work = work
+server_shown now entry (Some endpoint) work = record {
+  held = record work.held { servers = servers.after_offer now (server_offer entry endpoint) work.held.servers };
+  told = with_told (told_of_servers (servers.tells_full (server_offer entry endpoint) work.held.servers)) work.told;
+}
+
+-- the server has ended at the endpoint of an offer that a StopOffer ends
+abbrev pub server_ended : OfferKey → Option Standing → Held → Held
+server_ended key None held = held
+server_ended key (Some offer) held = record held { servers = servers.after_stop (server_key key.service offer.endpoint) (served_by key) held.servers }
+
+abbrev pub ended_shown : OfferEntry → Work → Work
+ended_shown entry work = record work { held = server_ended entry.key (offers.ended_by entry work.held.offers) work.held }
+
+-- an Offer: what the offers show, and then the servers
+abbrev pub offered_shown : ℕ → OfferEntry → Work → Work
+offered_shown now entry work = server_shown now entry entry.endpoint (offer_shown now entry work)
+
+-- a StopOffer, which shows nothing: it ends its offer, and the server at the endpoint of that
+abbrev pub stop_shown : ℕ → WithdrawnOffer → OfferEntry → Work → Work
+stop_shown now offer entry work = withdrawn offer (offer_shown now entry (ended_shown entry work))
+
 -- a Find shows nothing
 abbrev pub service_shown : ServiceKind → ℕ → Origin → ServiceEntry → Option SocketAddrV4 → Work → Work
 service_shown Find now origin entry endpoint work = work
 service_shown Offer now origin entry endpoint work =
-    if entry.ttl == 0 then withdrawn (withdrawn_offer origin entry) (offer_shown now (offer_entry origin entry endpoint) work)
-    else offer_shown now (offer_entry origin entry endpoint) work
+    if entry.ttl == 0 then stop_shown now (withdrawn_offer origin entry) (offer_entry origin entry endpoint) work
+    else offered_shown now (offer_entry origin entry endpoint) work
 
 -- an entry of an eventgroup, as to its answer
 abbrev pub subscribe_shown : ℕ → SubscribeEntry → Work → Work
@@ -145,6 +178,15 @@ abbrev pub taken_shown : ℕ → Origin → ReadValue → Work → Work
 taken_shown now origin (good entry) work = good_shown now origin entry.head (first_udp_endpoint (options_of entry)) work
 taken_shown now origin (bad_run head) work = head_shown now origin head None work
 
+-- the head of an entry
+abbrev pub head_of : ReadValue → EntryHead
+head_of (good entry) = entry.head
+head_of (bad_run head) = head
+
+-- that an Offer was seen is kept
+abbrev pub offer_noted : ReadValue → Held → Held
+offer_noted entry held = if offers_by (head_of entry) then record held { is_offered = true } else held
+
 -- what its options show: that one of its runs passes the options, or that it needs an endpoint and has none
 abbrev pub told_of_options : ReadValue → Option Finding
 told_of_options (good entry) = if lacks_endpoint entry.head (first_udp_endpoint (options_of entry)) then Some (findings.NoEndpoint (instance_of entry.head)) else None
@@ -153,9 +195,9 @@ told_of_options (bad_run head) = Some (findings.BadRun (instance_of head))
 abbrev pub options_shown : ReadValue → Work → Work
 options_shown entry work = record work { told = with_told (told_of_options entry) work.told }
 
--- an entry comes: what its options show is told first
+-- an entry comes: whether it is an Offer is kept, and what its options show is told first
 abbrev pub entry_shown : ℕ → Origin → ReadValue → Work → Work
-entry_shown now origin entry work = taken_shown now origin entry (options_shown entry work)
+entry_shown now origin entry work = taken_shown now origin entry (options_shown entry (record work { held = offer_noted entry work.held }))
 
 -- ---- the message
 

@@ -1,6 +1,7 @@
 //! The audit of a recording.
 ghost use Rattle.std.specs.Prelude.{◌≡◌, true, IfOk, IfSome, IfNone, OnErr, OnOk};
 ghost use Rattle.std.specs.Ordering.{is_le};
+ghost use Rattle.audit_traffic.specs.ways.WayTables.{one_ways};
 ghost use Rattle.someip_wire.specs.Reading.{items_of};
 ghost use Rattle.someip_audit.specs.AnyShown.{items_shown, message_count};
 ghost use Rattle.someip_audit.specs.Audits.{audit_begun, seen_messages, seen_work};
@@ -13,6 +14,7 @@ use crate::fell_due::FellDue;
 use crate::finding::Finding;
 use crate::rules::AuditRules;
 use crate::watched::WatchRules;
+use audit_traffic::ways::OneWay;
 use someip_reassembly::Reassembly;
 use someip_tables::Moment;
 use someip_tables::hashed::Origin;
@@ -68,6 +70,21 @@ impl<S: Reassembly> Audit<S> {
         ensures after { self.new ≡ after_due now result self.old }
     {
         self.books.due(now)
+    }
+
+    /// Whether an Offer was seen in a datagram that was looked at.
+    pub fn is_offered(&self) -> bool
+        ensures { result ≡ self.now.is_offered }
+    {
+        self.books.is_offered
+    }
+
+    /// The ways that at least eight REQUESTs and answers went, while none came back, in the order of the ways.
+    /// Where `ways` was ever full there are none.
+    pub fn one_ways(&self) -> Result<Vec<OneWay>, AllocError>
+        ensures { IfOk result (λ ways. ways.items ≡ one_ways self.now.ways) }
+    {
+        self.books.ways.one_ways()
     }
 
     /// Takes note of a datagram of any port, and appends what it shows, in order. Says how many messages

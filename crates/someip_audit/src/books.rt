@@ -11,27 +11,34 @@ use crate::soonest::{earlier, is_at, soonest};
 use crate::watched::{WatchRules, Watched};
 use audit_sd::offers::OfferBook;
 use audit_sd::receivers::ReceiverBook;
+use audit_sd::servers::ServerBook;
 use audit_sd::sessions::SessionBook;
 use audit_sd::subscriptions::SubscribeBook;
 use audit_traffic::calls::{CallBook, CallRules};
 use audit_traffic::segments::SegmentBook;
 use audit_traffic::sequence::{SequenceBook, SequenceRules};
+use audit_traffic::ways::WayBook;
 use someip_reassembly::Reassembly;
 use someip_tables::Moment;
 use std::alloc::{AllocError, Global};
 use std::marker::Model;
 
-/// The books of one audit, each with a kind of findings, and which datagrams are looked at.
+/// The books of one audit, each with a kind of findings, which datagrams are looked at, and whether an Offer was
+/// seen.
 #[derive(Drop)]
 pub(crate) struct Books<S: Reassembly> {
     pub(crate) calls: CallBook,
     pub(crate) segments: SegmentBook<S>,
     pub(crate) offers: OfferBook,
+    pub(crate) servers: ServerBook,
     pub(crate) subscriptions: SubscribeBook,
     pub(crate) sessions: SessionBook,
     pub(crate) receivers: ReceiverBook,
     pub(crate) events: SequenceBook,
+    pub(crate) ways: WayBook,
     pub(crate) watched: Watched,
+    /// Whether an Offer was seen.
+    pub(crate) is_offered: bool,
 }
 
 impl<S: Reassembly> Model for Books<S> {
@@ -45,11 +52,14 @@ impl<S: Reassembly> Model for Books<S> {
       calls = b.calls;
       segments = b.segments;
       offers = b.offers;
+      servers = b.servers;
       subscriptions = b.subscriptions;
       sessions = b.sessions;
       receivers = b.receivers;
       events = b.events;
+      ways = b.ways;
       watched = b.watched;
+      is_offered = b.is_offered;
     } };
 }
 
@@ -80,6 +90,7 @@ impl<S: Reassembly> Books<S> {
             calls: CallBook::new(alloc, calls),
             segments,
             offers: OfferBook::new(alloc, rules.limit),
+            servers: ServerBook::new(alloc, rules.limit),
             subscriptions: SubscribeBook::new(
                 alloc,
                 rules.limit,
@@ -89,7 +100,9 @@ impl<S: Reassembly> Books<S> {
             sessions: SessionBook::new(alloc, rules.limit, rules.overtake_ms),
             receivers: ReceiverBook::new(alloc, rules.limit, moment_after(now, rules.settle_ms)),
             events: SequenceBook::new(alloc, sequences),
+            ways: WayBook::new(alloc, rules.limit),
             watched,
+            is_offered: false,
         })
     }
 

@@ -1,19 +1,23 @@
 //! Messages of Service Discovery over the books.
 ghost use Rattle.std.specs.Prelude.{◌≡◌, OnErr, OnOk, Some, [], map};
 ghost use Rattle.sd_wire.specs.contents.Values.{view_read, view_sd};
-ghost use Rattle.someip_audit.specs.SdShown.{IsBegun, begun_again, changed, endpoint_shown, entries_shown, entry_shown};
-ghost use Rattle.someip_audit.specs.SdShown.{good_shown, group_shown, group_taken, head_shown, offer_shown, receiver_shown, sd_shown};
-ghost use Rattle.someip_audit.specs.SdShown.{service_shown, session_shown, subscribe_shown, taken_shown};
+ghost use Rattle.someip_audit.specs.SdShown.{IsBegun, begun_again, changed, ended_shown, endpoint_shown};
+ghost use Rattle.someip_audit.specs.SdShown.{entries_shown, entry_shown, good_shown, group_shown};
+ghost use Rattle.someip_audit.specs.SdShown.{group_taken, head_of, head_shown, offer_noted, offer_shown};
+ghost use Rattle.someip_audit.specs.SdShown.{offered_shown, receiver_shown, sd_shown};
+ghost use Rattle.someip_audit.specs.SdShown.{server_shown, service_shown, session_shown, stop_shown};
+ghost use Rattle.someip_audit.specs.SdShown.{subscribe_shown, taken_shown};
+ghost use Rattle.someip_audit.specs.SdEntries.{offers_by};
 ghost use Rattle.someip_audit.specs.SdShown.{told_of_options, told_unasked, with_told, working};
 
 use crate::books::Books;
 use crate::entries::{
-    instance_of, lacks_endpoint, named_endpoint, offer_entry, receiver_entry, sd_message,
-    subscribe_entry, withdrawn_offer,
+    instance_of, lacks_endpoint, named_endpoint, offer_entry, offers_by, receiver_entry,
+    sd_message, served_by, server_key, server_offer, subscribe_entry, withdrawn_offer,
 };
 use crate::finding::Finding;
 use audit_sd::offers::OfferEntry;
-use audit_sd::receivers::ReceiverEntry;
+use audit_sd::receivers::{ReceiverEntry, WithdrawnOffer};
 use audit_sd::sessions::SdMessage;
 use audit_sd::subscriptions::{SubscribeEntry, SubscriptionKey};
 use sd_wire::{EntryHead, ReadEntry, SdRead, ServiceEntry, ServiceKind};
@@ -70,6 +74,7 @@ impl<S: Reassembly> Books<S> {
         ensures { self.new ≡ begun_again address self.old }
     {
         self.offers.forget(address);
+        self.servers.forget(address);
         self.subscriptions.forget(address);
         self.receivers.forget(address);
         self.events.forget(address);
@@ -94,7 +99,7 @@ impl<S: Reassembly> Books<S> {
         Ok(())
     }
 
-    /// An entry comes: what its options show is told first.
+    /// An entry comes: whether it is an Offer is kept, and what its options show is told first.
     fn saw_entry(
         &mut self,
         now: Moment,
@@ -107,8 +112,18 @@ impl<S: Reassembly> Books<S> {
         ensures err { OnErr result (IsBegun findings.old.items findings.new.items
             (entry_shown now origin.now (view_read entry.now) (working self.old findings.old.items)).told) }
     {
+        self.note_offer(entry);
         tell_if_any(findings, told_of_options(entry))?;
         self.take_entry(now, origin, entry, findings)
+    }
+
+    /// Keeps whether an Offer was seen.
+    fn note_offer(&mut self, entry: &ReadEntry)
+        ensures { self.new ≡ offer_noted (view_read entry.now) self.old }
+    {
+        if is_offered_by(entry) {
+            self.is_offered = true;
+        }
     }
 
     /// The books take an entry.
@@ -254,17 +269,83 @@ impl<S: Reassembly> Books<S> {
     ) -> Result<(), AllocError>
         ensures ok { OnOk result (working self.new findings.new.items
             ≡ service_shown entry.now.kind now origin.now entry.now endpoint (working self.old findings.old.items)) }
-        ensures err { OnErr result (findings.new.items ≡ findings.old.items) }
+        ensures err { OnErr result (IsBegun findings.old.items findings.new.items
+            (service_shown entry.now.kind now origin.now entry.now endpoint (working self.old findings.old.items)).told) }
     {
         if matches!(entry.kind, ServiceKind::Find) {
             return Ok(());
         }
+        let offer = offer_entry(origin, entry, endpoint);
         if entry.ttl.seconds() == 0 {
-            let offer = withdrawn_offer(origin, entry);
-            self.receivers.withdraw(offer);
-            self.events.withdraw(offer.server, offer.service);
+            self.saw_stop(now, withdrawn_offer(origin, entry), offer, findings)
+        } else {
+            self.saw_offered(now, offer, findings)
         }
-        self.saw_offer(now, offer_entry(origin, entry, endpoint), findings)
+    }
+
+    /// A StopOffer comes, which withdraws this offer.
+    fn saw_stop(
+        &mut self,
+        now: Moment,
+        offer: WithdrawnOffer,
+        entry: OfferEntry,
+        findings: &mut Vec<Finding>,
+    ) -> Result<(), AllocError>
+        ensures ok { OnOk result (working self.new findings.new.items
+            ≡ stop_shown now offer entry (working self.old findings.old.items)) }
+        ensures err { OnErr result (findings.new.items ≡ findings.old.items) }
+    {
+        self.end_server(&entry);
+        self.receivers.withdraw(offer);
+        self.events.withdraw(offer.server, offer.service);
+        self.saw_offer(now, entry, findings)
+    }
+
+    /// A StopOffer ends the server at the endpoint of the offer that it ends.
+    fn end_server(&mut self, entry: &OfferEntry)
+        ensures { self.new ≡ (ended_shown entry.now (working self.old [])).held }
+    {
+        if let Some(offer) = self.offers.ended_by(entry) {
+            let server = server_key(entry.key.service, offer.endpoint);
+            self.servers.stopped(&server, served_by(&entry.key));
+        }
+    }
+
+    /// An Offer comes: what the offers show is told first, and then the servers.
+    fn saw_offered(
+        &mut self,
+        now: Moment,
+        entry: OfferEntry,
+        findings: &mut Vec<Finding>,
+    ) -> Result<(), AllocError>
+        ensures ok { OnOk result (working self.new findings.new.items
+            ≡ offered_shown now entry (working self.old findings.old.items)) }
+        ensures err { OnErr result (IsBegun findings.old.items findings.new.items
+            (offered_shown now entry (working self.old findings.old.items)).told) }
+    {
+        self.saw_offer(now, entry, findings)?;
+        self.saw_server(now, entry, findings)
+    }
+
+    /// An Offer comes, as to the server that it names.
+    fn saw_server(
+        &mut self,
+        now: Moment,
+        entry: OfferEntry,
+        findings: &mut Vec<Finding>,
+    ) -> Result<(), AllocError>
+        ensures ok { OnOk result (working self.new findings.new.items
+            ≡ server_shown now entry entry.endpoint (working self.old findings.old.items)) }
+        ensures err { OnErr result (findings.new.items ≡ findings.old.items) }
+    {
+        let Some(endpoint) = entry.endpoint else {
+            return Ok(());
+        };
+        if self.servers.offered(now, server_offer(&entry, endpoint))? {
+            tell(findings, Finding::ServersFull)
+        } else {
+            Ok(())
+        }
     }
 
     /// An Offer or a StopOffer comes.
@@ -316,6 +397,16 @@ impl<S: Reassembly> Books<S> {
             Some(shown) => tell(findings, Finding::Receiver(entry.key, shown)),
             None => Ok(()),
         }
+    }
+}
+
+/// Whether an entry is an Offer.
+fn is_offered_by(entry: &ReadEntry) -> bool
+    ensures { result ≡ offers_by (head_of (view_read entry.now)) }
+{
+    match entry {
+        ReadEntry::Good(entry) => offers_by(&entry.head),
+        ReadEntry::BadRun(head) => offers_by(head),
     }
 }
 

@@ -1,11 +1,14 @@
 //! Entries of Service Discovery as the books take them.
 ghost use Rattle.std.specs.Prelude.{◌≡◌};
 ghost use Rattle.someip_audit.specs.SdEntries.{instance_of, is_offer, lacks_endpoint, named_endpoint, names_endpoint};
-ghost use Rattle.someip_audit.specs.SdEntries.{needs_endpoint, offer_entry, receiver_entry, sd_message, subscribe_entry, withdrawn_offer};
+ghost use Rattle.someip_audit.specs.SdEntries.{needs_endpoint, offer_entry, offers_by, receiver_entry, sd_message};
+ghost use Rattle.someip_audit.specs.SdEntries.{served_by, server_key, server_offer, subscribe_entry};
+ghost use Rattle.someip_audit.specs.SdEntries.{withdrawn_offer};
 
 use crate::finding::ServiceInstance;
 use audit_sd::offers::{OfferEntry, OfferKey};
 use audit_sd::receivers::{ReceiverEntry, WithdrawnOffer};
+use audit_sd::servers::{Served, ServerKey, ServerOffer};
 use audit_sd::sessions::SdMessage;
 use audit_sd::subscriptions::{EntryKind, SubscribeEntry, SubscriptionKey};
 use sd_session::Stamp;
@@ -46,6 +49,35 @@ pub(crate) fn offer_entry(
         endpoint,
         ttl: entry.ttl.seconds(),
         origin: *origin,
+    }
+}
+
+/// An Offer with this endpoint, as far as it names a server.
+pub(crate) fn server_offer(entry: &OfferEntry, endpoint: SocketAddrV4) -> ServerOffer
+    ensures { result ≡ server_offer entry.now endpoint }
+{
+    ServerOffer {
+        server: server_key(entry.key.service, endpoint),
+        served: served_by(&entry.key),
+        ttl: entry.ttl,
+        sender: *entry.origin.from.ip(),
+    }
+}
+
+/// The server of a service at an endpoint.
+pub(crate) fn server_key(service: u16, endpoint: SocketAddrV4) -> ServerKey
+    ensures { result ≡ server_key service endpoint }
+{
+    ServerKey { service, endpoint }
+}
+
+/// What an offer offers of its service.
+pub(crate) fn served_by(key: &OfferKey) -> Served
+    ensures { result ≡ served_by key.now }
+{
+    Served {
+        instance: key.instance,
+        major: key.major,
     }
 }
 
@@ -150,6 +182,16 @@ fn names_endpoint(head: &EntryHead) -> bool
         EntryHead::Eventgroup(entry) => {
             matches!(entry.kind, EventgroupKind::Subscribe) && entry.ttl.seconds() != 0
         }
+    }
+}
+
+/// Whether an entry with this head is an Offer.
+pub(crate) fn offers_by(head: &EntryHead) -> bool
+    ensures { result ≡ offers_by head.now }
+{
+    match head {
+        EntryHead::Service(entry) => is_offer(entry),
+        EntryHead::Eventgroup(_) => false,
     }
 }
 

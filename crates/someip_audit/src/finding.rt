@@ -34,6 +34,8 @@ pub enum Finding {
     Call(Header, CallFinding),
     /// A message with this header answers its call with another return code than E_OK.
     Error(Header),
+    /// A message with this header, as to its server.
+    Server(Header, audit_sd::servers::Finding),
     /// An event to one endpoint, as to who is subscribed.
     Event(Delivery, audit_sd::receivers::Finding),
     /// An event of this flow, to one endpoint or to a group, with this session, by this.
@@ -53,4 +55,8 @@ pub enum Finding {
     /// An Offer or a Subscribe names an endpoint, and as many were learnt as may be. It is told once, and
     /// no more are learnt.
     EndpointsFull,
+    /// A message went between two endpoints, and as many ways are counted as may be. It is told once.
+    WaysFull,
+    /// An Offer names a server, and as many are known as may be. It is told once, and the server is not taken.
+    ServersFull,
 }

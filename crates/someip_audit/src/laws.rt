@@ -29,15 +29,18 @@ ghost use Rattle.someip_audit.specs.declared.finding.Finding.TheVariants as find
 ghost use Rattle.someip_audit.specs.AnyShown.{is_sd, items_shown, message_count, payload_shown};
 ghost use Rattle.someip_audit.specs.Learning.{learnt_in, named_by};
 ghost use Rattle.someip_audit.specs.WatchedEndpoints.{Watch, is_at_learnt, is_looked_at, once_named, told_of_endpoint};
-ghost use Rattle.someip_audit.specs.SdScenes.{once_told, segment_with, sent_from, at_40000};
+ghost use Rattle.someip_audit.specs.SdScenes.{once_offered, once_told, segment_with, sent_from, at_40000};
 ghost use Rattle.someip_audit.specs.BooksHeld.{Held};
 ghost use Rattle.someip_audit.specs.FellDues.{fell_cmp};
-ghost use Rattle.someip_audit.specs.MessageShown.{event_flow, event_shown, flow_shown, is_event, message_shown, told_of_code};
+ghost use Rattle.someip_audit.specs.MessageShown.{event_flow, event_shown, flow_shown, is_event, is_of_call};
+ghost use Rattle.someip_audit.specs.MessageShown.{message_shown, server_message, told_of_code, way_of};
+ghost use Rattle.someip_audit.specs.MessageShown.{way_shown};
+ghost use Rattle.audit_traffic.specs.ways.WayTables.{after_message};
 ghost use Rattle.someip_audit.specs.SdEntries.{names_endpoint, offer_entry, subscribe_entry, withdrawn_offer};
 ghost use Rattle.someip_audit.specs.SdScenes.{call_due, group_entry, offer_due, sd_header, service_entry};
 ghost use Rattle.someip_audit.specs.SdScenes.{coded, group_without, instance_1, subscribe_due, with_endpoint, without_endpoint};
 ghost use Rattle.someip_audit.specs.SdShown.{Work, after_session, begun_again, endpoint_shown, entry_shown, group_shown, group_taken};
-ghost use Rattle.someip_audit.specs.SdShown.{head_shown, offer_shown};
+ghost use Rattle.someip_audit.specs.SdShown.{ended_shown, head_shown, offer_shown, server_shown};
 ghost use Rattle.someip_audit.specs.SdShown.{told_of_options, withdrawn};
 
 /// In which order what fell due is told, by example: by deadline; at one deadline calls, then offers, then
@@ -61,17 +64,21 @@ pub fn entries_are_of_one_subscription()
 {}
 
 /// What entries about an instance show, whatever the books hold: an Offer what the book of offers tells, by
-/// its first UDP endpoint, which is learnt; a StopOffer what it tells too, and it ends what is subscribed
-/// there; a Find nothing.
+/// its first UDP endpoint, which is learnt, and that it was seen, and then what the book of servers tells; a
+/// StopOffer what the book of offers tells, and it ends the server at the endpoint of its offer, and what is
+/// subscribed there; a Find nothing.
 pub fn entries_show_what_the_books_tell()
     ensures offered { (work : Work) → entry_shown 100 (from_node 1 1)
         (with_endpoint (service_entry Offer 3) 1 40000) work
-        ≡ offer_shown 100 (offer_entry (from_node 1 1) (service_entry Offer 3) (Some (endpoint 1 40000)))
-        (endpoint_shown (Some (endpoint 1 40000)) work) }
+        ≡ server_shown 100 (offer_entry (from_node 1 1) (service_entry Offer 3) (Some (endpoint 1 40000)))
+        (Some (endpoint 1 40000)) (offer_shown 100
+        (offer_entry (from_node 1 1) (service_entry Offer 3) (Some (endpoint 1 40000)))
+        (endpoint_shown (Some (endpoint 1 40000)) (once_offered work))) }
     ensures stopped { (work : Work) → entry_shown 100 (from_node 1 1)
         (with_endpoint (service_entry Offer 0) 1 40000) work
         ≡ withdrawn (withdrawn_offer (from_node 1 1) (service_entry Offer 0)) (offer_shown 100
-        (offer_entry (from_node 1 1) (service_entry Offer 0) (Some (endpoint 1 40000))) work) }
+        (offer_entry (from_node 1 1) (service_entry Offer 0) (Some (endpoint 1 40000)))
+        (ended_shown (offer_entry (from_node 1 1) (service_entry Offer 0) (Some (endpoint 1 40000))) work)) }
     ensures found { (work : Work) → entry_shown 100 (from_node 1 1)
         (with_endpoint (service_entry Find 3) 1 40000) work ≡ work }
 {}
@@ -97,7 +104,7 @@ pub fn entries_need_endpoints()
 pub fn bad_runs_are_told_first()
     ensures { (work : Work) → entry_shown 100 (from_node 1 1) (bad_run (Service (service_entry Offer 3))) work
         ≡ head_shown 100 (from_node 1 1) (Service (service_entry Offer 3)) None
-        (once_told (findings.BadRun instance_1) work) }
+        (once_told (findings.BadRun instance_1) (once_offered work)) }
 {}
 
 /// What an answer shows that nobody asked for, whatever the books hold: that first, and then what it shows
@@ -120,6 +127,23 @@ pub fn answers_with_other_codes_are_errors()
     ensures event { told_of_code (coded kinds.Notification 3) ≡ None }
 {}
 
+/// Which messages are counted on their way, by example: a REQUEST, a RESPONSE and an ERROR; no REQUEST that
+/// wants no answer, and no event. Of any other nothing changes, and of one that is counted the book of ways
+/// alone.
+pub fn messages_of_calls_are_counted_on_their_way()
+    ensures request { is_of_call (header_with 5 kinds.Request) ≡ true }
+    ensures response { is_of_call (header_with 5 kinds.Response) ≡ true }
+    ensures error { is_of_call (header_with 5 kinds.Error) ≡ true }
+    ensures no_return { is_of_call (header_with 5 kinds.RequestNoReturn) ≡ false }
+    ensures event { is_of_call (header_with 5 kinds.Notification) ≡ false }
+    ensures way { way_of (datagram 1 2 9) ≡ record { from = (datagram 1 2 9).from; to = (datagram 1 2 9).to } }
+    ensures others { (origin : Origin) (work : Work)
+        → way_shown origin (header_with 5 kinds.Notification) work ≡ work }
+    ensures counted { (origin : Origin) (work : Work)
+        → (way_shown origin (header_with 5 kinds.Request) work).held
+        ≡ record work.held { ways = after_message (way_of origin) work.held.ways } }
+{}
+
 /// What a finding of the sessions ends: a reboot all that the sender offered and subscribed, and what was
 /// subscribed at it; anything else nothing.
 pub fn a_reboot_ends_what_a_sender_offered()
@@ -137,6 +161,21 @@ pub fn events_go_to_one_endpoint()
         ≡ work }
     ensures response { (work : Work) → event_shown 100 (datagram 1 2 9) (header_with 5 kinds.Response) work
         ≡ work }
+{}
+
+/// Which server a message is of, by example: a REQUEST and a REQUEST_NO_RETURN go to that at their
+/// destination, and an answer and an event come from that at their source.
+pub fn messages_have_a_server()
+    ensures request { server_message (sent_from 1 40000 2 40001) (header_with 5 kinds.Request)
+        ≡ record { server = record { service = 0x1234; endpoint = endpoint 2 40001 }; interface = 1; is_request = true } }
+    ensures no_return { server_message (sent_from 1 40000 2 40001) (header_with 5 kinds.RequestNoReturn)
+        ≡ record { server = record { service = 0x1234; endpoint = endpoint 2 40001 }; interface = 1; is_request = false } }
+    ensures response { server_message (sent_from 1 40000 2 40001) (header_with 5 kinds.Response)
+        ≡ record { server = record { service = 0x1234; endpoint = endpoint 1 40000 }; interface = 1; is_request = false } }
+    ensures error { server_message (sent_from 1 40000 2 40001) (header_with 5 kinds.Error)
+        ≡ server_message (sent_from 1 40000 2 40001) (header_with 5 kinds.Response) }
+    ensures event { server_message (sent_from 1 40000 2 40001) (header_with 5 kinds.Notification)
+        ≡ server_message (sent_from 1 40000 2 40001) (header_with 5 kinds.Response) }
 {}
 
 /// Which messages are of Service Discovery, by example: a NOTIFICATION from or to port 30490 with the

@@ -3,20 +3,28 @@
 //! A segment without room for its TP header is malformed and no refusal of reassembly, which never sees it;
 //! its place is that of its payload, as `show` tells it.
 //!
-//! Of one event first its subscription and then its session is told.
+//! Of one message first its call and its return code, then its server, and then the subscription and the
+//! session of its event are told.
 ghost use Rattle.std.specs.Prelude.{◌≡◌, OnErr, OnOk, Some};
 ghost use Rattle.someip_wire.specs.View.{view};
-ghost use Rattle.someip_audit.specs.MessageShown.{call_shown, event_flow, event_shown, flow_shown, is_error, is_unicast};
-ghost use Rattle.someip_audit.specs.MessageShown.{message_shown, piece_shown, segment_shown, told_of_code, whole_shown};
+ghost use Rattle.someip_audit.specs.MessageShown.{call_shown, event_flow, event_shown, flow_shown};
+ghost use Rattle.someip_audit.specs.MessageShown.{goes_to_server, is_error, is_of_call, is_unicast};
+ghost use Rattle.someip_audit.specs.MessageShown.{judged_shown, message_shown, piece_shown, rest_shown};
+ghost use Rattle.someip_audit.specs.MessageShown.{segment_shown, server_message, told_of_code, told_of_way};
+ghost use Rattle.someip_audit.specs.MessageShown.{way_of, way_shown, whole_shown, whole_taken};
 ghost use Rattle.someip_audit.specs.SdShown.{IsBegun, working};
 
 use crate::books::Books;
 use crate::discovery::{tell, tell_if_any};
+use crate::entries::server_key;
 use crate::finding::Finding;
 use crate::watched::is_at_discovery;
 use audit_sd::receivers::Delivery;
+use audit_sd::servers::ServerMessage;
 use audit_traffic::events::{EventFlow, Notification};
 use audit_traffic::segments::SegmentTold;
+use audit_traffic::ways;
+use audit_traffic::ways::Way;
 use someip_reassembly::Reassembly;
 use someip_tables::Moment;
 use someip_tables::hashed::Origin;
@@ -26,7 +34,7 @@ use std::net::SocketAddrV4;
 
 impl<S: Reassembly> Books<S> {
     /// Takes note of a message that is none of Service Discovery, and appends what it shows: a whole one of
-    /// its call, by its return code, of who is subscribed to its event, and by its event's session; a segment why it is
+    /// its call, by its return code, of its server, of who is subscribed to its event, and by its event's session; a segment why it is
     /// refused, or what its message shows once it is whole, unless it goes from or to the port of Service
     /// Discovery, where messages are not put together. Its payload begins at a place of its datagram.
     /// `bytes` is room for the payload of a message in segments. Where memory runs out, what was appended
@@ -46,7 +54,7 @@ impl<S: Reassembly> Books<S> {
             (message_shown now origin.now place (view message.now) (working self.old findings.old.items)).told) }
     {
         if !message.header.kind.has_tp_flag() {
-            return self.saw_whole(now, origin, message, findings);
+            return self.take_whole(now, origin, message, findings);
         }
         if is_at_discovery(origin) {
             return Ok(());
@@ -101,12 +109,50 @@ impl<S: Reassembly> Books<S> {
                     header,
                     payload: bytes,
                 };
-                self.saw_whole(now, origin, &whole, findings)
+                self.take_whole(now, origin, &whole, findings)
             }
         }
     }
 
-    /// A whole message comes.
+    /// A whole message comes: what it shows is told, and then it is counted on its way.
+    #[tactic(auto, unfolding(crate::specs::MessageShown::whole_taken))]
+    fn take_whole(
+        &mut self,
+        now: Moment,
+        origin: &Origin,
+        message: &Message<'_>,
+        findings: &mut Vec<Finding>,
+    ) -> Result<(), AllocError>
+        ensures ok { OnOk result (working self.new findings.new.items
+            ≡ whole_taken now origin.now message.now.header message.now.payload.now
+            (working self.old findings.old.items)) }
+        ensures err { OnErr result (IsBegun findings.old.items findings.new.items
+            (whole_taken now origin.now message.now.header message.now.payload.now
+            (working self.old findings.old.items)).told) }
+    {
+        self.saw_whole(now, origin, message, findings)?;
+        self.saw_way(origin, &message.header, findings)
+    }
+
+    /// A whole message is counted on its way.
+    fn saw_way(
+        &mut self,
+        origin: &Origin,
+        header: &Header,
+        findings: &mut Vec<Finding>,
+    ) -> Result<(), AllocError>
+        ensures ok { OnOk result (working self.new findings.new.items
+            ≡ way_shown origin.now header.now (working self.old findings.old.items)) }
+        ensures err { OnErr result (findings.new.items ≡ findings.old.items) }
+    {
+        if !is_of_call(header) {
+            return Ok(());
+        }
+        let told = self.ways.saw(way_of(origin))?;
+        tell_if_any(findings, told_of_way(told))
+    }
+
+    /// What a whole message shows.
     fn saw_whole(
         &mut self,
         now: Moment,
@@ -123,8 +169,43 @@ impl<S: Reassembly> Books<S> {
     {
         self.saw_call(now, origin, message, findings)?;
         tell_if_any(findings, told_of_code(&message.header))?;
-        self.saw_event(now, origin, &message.header, findings)?;
-        self.saw_flow(now, origin, &message.header, findings)
+        self.saw_rest(now, origin, &message.header, findings)
+    }
+
+    /// A whole message comes, as to its server and its event.
+    fn saw_rest(
+        &mut self,
+        now: Moment,
+        origin: &Origin,
+        header: &Header,
+        findings: &mut Vec<Finding>,
+    ) -> Result<(), AllocError>
+        ensures ok { OnOk result (working self.new findings.new.items
+            ≡ rest_shown now origin.now header.now (working self.old findings.old.items)) }
+        ensures err { OnErr result (IsBegun findings.old.items findings.new.items
+            (rest_shown now origin.now header.now (working self.old findings.old.items)).told) }
+    {
+        self.judge(now, origin, header, findings)?;
+        self.saw_event(now, origin, header, findings)?;
+        self.saw_flow(now, origin, header, findings)
+    }
+
+    /// A whole message comes, as to its server.
+    fn judge(
+        &mut self,
+        now: Moment,
+        origin: &Origin,
+        header: &Header,
+        findings: &mut Vec<Finding>,
+    ) -> Result<(), AllocError>
+        ensures ok { OnOk result (working self.new findings.new.items
+            ≡ judged_shown now origin.now header.now (working self.old findings.old.items)) }
+        ensures err { OnErr result (findings.new.items ≡ findings.old.items) }
+    {
+        match self.servers.heard(now, &server_message(origin, header)) {
+            Some(shown) => tell(findings, Finding::Server(*header, shown)),
+            None => Ok(()),
+        }
     }
 
     /// A whole message comes, as to its call.
@@ -203,6 +284,36 @@ impl<S: Reassembly> Books<S> {
     }
 }
 
+/// Whether a message with this header wants an answer or is one.
+fn is_of_call(header: &Header) -> bool
+    ensures { result ≡ is_of_call header.now }
+{
+    matches!(
+        header.kind,
+        MessageType::Request | MessageType::Response | MessageType::Error
+    )
+}
+
+/// The way that a message went.
+fn way_of(origin: &Origin) -> Way
+    ensures { result ≡ way_of origin.now }
+{
+    Way {
+        from: origin.from,
+        to: origin.to,
+    }
+}
+
+/// That the book of ways is full.
+fn told_of_way(shown: Option<ways::Finding>) -> Option<Finding>
+    ensures { result ≡ told_of_way shown }
+{
+    match shown {
+        Some(_) => Some(Finding::WaysFull),
+        None => None,
+    }
+}
+
 /// What a whole message with this header shows by its return code.
 fn told_of_code(header: &Header) -> Option<Finding>
     ensures { result ≡ told_of_code header.now }
@@ -220,6 +331,32 @@ fn is_error(header: &Header) -> bool
 {
     let answers = matches!(header.kind, MessageType::Response | MessageType::Error);
     answers && header.code != ReturnCode::E_OK
+}
+
+/// A message with this header, as far as its server goes.
+fn server_message(origin: &Origin, header: &Header) -> ServerMessage
+    ensures { result ≡ server_message origin.now header.now }
+{
+    let endpoint = if goes_to_server(header.kind) {
+        origin.to
+    } else {
+        origin.from
+    };
+    ServerMessage {
+        server: server_key(header.service, endpoint),
+        interface: header.interface,
+        is_request: matches!(header.kind, MessageType::Request),
+    }
+}
+
+/// Whether a message of this type goes to the server at its destination.
+fn goes_to_server(kind: MessageType) -> bool
+    ensures { result ≡ goes_to_server kind }
+{
+    matches!(
+        kind.without_tp_flag(),
+        MessageType::Request | MessageType::RequestNoReturn
+    )
 }
 
 /// The flow of an event.

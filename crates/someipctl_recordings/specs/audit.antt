@@ -11,4 +11,5 @@ pub mod Steps
 pub mod Scenes
 pub mod Runs
 pub mod Settings
+pub mod Unjudged
 pub mod TextScenes

@@ -3,6 +3,7 @@
 mod asked;
 mod auditing;
 mod audits;
+mod fields;
 mod kind;
 pub mod laws;
 mod lines;
@@ -11,6 +12,7 @@ mod settings;
 mod subject;
 mod summary;
 mod tally;
+mod unjudged;
 
 pub use asked::AuditAsked;
 pub use audits::show_audit;

@@ -2,9 +2,10 @@
 use Rattle.std.proofs.Common.{◌≡◌, ℕ, ◌==◌, Bool, true, false, cond, if◌then◌else◌, not, ◌||◌, List, [], ◌∷◌, ◌++◌, Option, None, Some, refl, sym, ap, ◌∙◌}
 use Rattle.std.specs.Option.{is_none}
 use Rattle.std.specs.Ordering.{eq_by_cmp}
+use Rattle.std.specs.FinMap as finite
 use Rattle.std.specs.declared.net.socket_addr.SocketAddrV4.{SocketAddrV4}
 use Rattle.someip_tables.specs.Retained.{kept_if}
-use Rattle.someip_tables.proofs.Entries.{own_test, same_by_test}
+use Rattle.someip_tables.proofs.Entries.{get-retain, own_test, same_by_test}
 use Rattle.audit_sd.specs.declared.offers.entry.OfferEntry.{OfferEntry}
 use Rattle.audit_sd.specs.declared.offers.entry.Standing.{Standing}
 use Rattle.audit_sd.specs.declared.offers.finding.Finding.TheVariants.{Moved}
@@ -12,7 +13,9 @@ use Rattle.audit_sd.specs.declared.offers.key.OfferKey.{OfferKey}
 use Rattle.audit_sd.specs.offers.OfferKeys.{offer_cmp}
 use Rattle.audit_sd.specs.offers.OfferOrder.{offers_total, exact_offers}
 use Rattle.audit_sd.specs.offers.OfferRules.{has_expired, is_of, is_renewed_by, moved_by, offered_at, sender_of, unless_expired, unless_of}
-use Rattle.audit_sd.specs.offers.OfferHistories.{BeganAgain, Entry, Event, Shown, changed_by, expiring_in, offered, shown_by, shown_by_offer, standing_in}
+use Rattle.audit_sd.specs.offers.OfferTables.{ended_by}
+use Rattle.audit_sd.specs.offers.OfferHistories.{BeganAgain, Entry, Event, Shown, book_of, changed_by, expiring_in, offered, shown_by, shown_by_offer, standing_in, without_expired}
+use Rattle.audit_sd.proofs.about_offers.HistoryLemmas.{stands}
 use Rattle.audit_sd.specs.offers.OfferReasons.{IsStanding, Moves, NoneSince, leaves}
 
 -- ---- what a test keeps
@@ -141,3 +144,23 @@ pub is_moved : (now : ℕ) (entry : OfferEntry) (events : List Event) → Moves 
 is_moved now entry events one =
     let here : unless_expired now (standing_in events entry.key) ≡ Some one.1 = ap (unless_expired now) (is_standing entry.key one.1 events one.4) ∙ rw one.5 refl in
     rw (one.2, one.3, here, one.6) refl
+
+-- ---- what a StopOffer ends
+
+held_is : (limit now : ℕ) (events : List Event) (key : OfferKey) → (book_of limit events).told_full ≡ false
+    → finite.get (without_expired now (book_of limit events)).standing key ≡ unless_expired now (standing_in events key)
+held_is limit now events key fits =
+    get-retain offers_total exact_offers (book_of limit events).standing (λ _ offer. not (has_expired now offer)) key ∙ ap (unless_expired now) (stands limit events key fits)
+
+pub ended_is : (limit now : ℕ) (entry : OfferEntry) (offer : Standing) (events : List Event) → (book_of limit events).told_full ≡ false → ended_by entry (without_expired now (book_of limit events)) ≡ Some offer
+    → IsStanding entry.key offer events × (has_expired now offer ≡ false) × (is_of (sender_of entry) offer ≡ true)
+ended_is limit now entry offer events fits is =
+    let own = kept (is_of (sender_of entry)) (finite.get (without_expired now (book_of limit events)).standing entry.key) offer is in
+    let stays = kept (λ o. not (has_expired now o)) (standing_in events entry.key) offer (sym (held_is limit now events entry.key fits) ∙ own.0) in
+    (standing_is entry.key offer events stays.0, not_true (has_expired now offer) stays.1, own.1)
+
+pub is_ended : (limit now : ℕ) (entry : OfferEntry) (offer : Standing) (events : List Event) → (book_of limit events).told_full ≡ false
+    → IsStanding entry.key offer events × (has_expired now offer ≡ false) × (is_of (sender_of entry) offer ≡ true) → ended_by entry (without_expired now (book_of limit events)) ≡ Some offer
+is_ended limit now entry offer events fits all =
+    let here : unless_expired now (standing_in events entry.key) ≡ Some offer = ap (unless_expired now) (is_standing entry.key offer events all.0) ∙ rw all.1 refl in
+    ap (kept_if (is_of (sender_of entry))) (held_is limit now events entry.key fits ∙ here) ∙ rw all.2 refl

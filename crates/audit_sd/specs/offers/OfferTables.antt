@@ -8,7 +8,7 @@ use Rattle.std.specs.declared.net.socket_addr.SocketAddrV4.{SocketAddrV4}
 use Rattle.someip_tables.specs.declared.deadline.Deadline.{Deadline}
 use Rattle.someip_tables.specs.Deadlines.{coded_deadline}
 use Rattle.someip_tables.specs.Endpoints.{coded_endpoint}
-use Rattle.someip_tables.specs.Retained.{retain}
+use Rattle.someip_tables.specs.Retained.{kept_if, retain}
 use Rattle.someip_tables.specs.hashed.Dues.{IsFirstDue}
 use Rattle.audit_sd.specs.declared.offers.entry.OfferEntry.{OfferEntry}
 use Rattle.someip_tables.specs.declared.hashed.origin.Origin.{Origin}
@@ -60,6 +60,10 @@ is_offered_by sender (Some offer) = is_of sender offer
 -- the offers once a StopOffer came: it ends the offer of its sender
 abbrev pub stopped : OfferEntry → Offers → Offers
 stopped entry offers = if is_offered_by (sender_of entry) (finite.get offers entry.key) then finite.remove offers entry.key else offers
+
+-- the offer that a StopOffer ends
+abbrev pub ended_by : OfferEntry → OfferTable → Option Standing
+ended_by entry book = kept_if (is_of (sender_of entry)) (finite.get book.standing entry.key)
 
 -- the book once an entry came
 abbrev pub after_entry : ℕ → OfferEntry → OfferTable → OfferTable

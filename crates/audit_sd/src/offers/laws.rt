@@ -10,9 +10,9 @@ ghost use Rattle.audit_sd.specs.declared.offers.entry.Standing.{Standing};
 ghost use Rattle.audit_sd.specs.declared.offers.finding.Expired.{Expired};
 ghost use Rattle.audit_sd.specs.declared.offers.finding.Finding.TheVariants.{Full, Moved};
 ghost use Rattle.audit_sd.specs.declared.offers.key.OfferKey.{OfferKey};
-ghost use Rattle.audit_sd.specs.offers.OfferRules.{has_expired};
+ghost use Rattle.audit_sd.specs.offers.OfferRules.{has_expired, is_of, sender_of};
 ghost use Rattle.audit_sd.specs.offers.OfferTables.{FallsDue, OfferTable, Offers, after_due, after_entry};
-ghost use Rattle.audit_sd.specs.offers.OfferTables.{told_by};
+ghost use Rattle.audit_sd.specs.offers.OfferTables.{ended_by, told_by};
 ghost use Rattle.audit_sd.specs.offers.OfferHistories.{Event, book_of, expiring_in, shown_by, standing_in};
 ghost use Rattle.audit_sd.specs.offers.OfferHistories.{without_expired};
 ghost use Rattle.audit_sd.specs.offers.OfferReasons.{IsStanding, Moves};
@@ -124,7 +124,8 @@ pub fn full_is_told_once()
 {}
 
 /// An offer that expires and an Offer that moves one are told exactly where their reasons in plain words
-/// hold: an offer stands exactly where its Offer is among the events and since then nothing ended it.
+/// hold: an offer stands exactly where its Offer is among the events and since then nothing ended it. A
+/// StopOffer ends exactly the offer of its own sender that stands under its key.
 pub fn each_finding_has_its_reason()
     ensures stands { (key : OfferKey) (offer : Standing) (events : List Event)
         → (standing_in events key ≡ Some offer) ↔ IsStanding key offer events }
@@ -133,4 +134,9 @@ pub fn each_finding_has_its_reason()
         ↔ (IsStanding key offer events × (has_expired now offer ≡ true)) }
     ensures moved { (now : ℕ) (entry : OfferEntry) (events : List Event)
         → (shown_by events now entry ≡ Some Moved) ↔ Moves now entry events }
+    ensures ended { (limit now : ℕ) (entry : OfferEntry) (offer : Standing) (events : List Event)
+        → (book_of limit events).told_full ≡ false
+        → (ended_by entry (without_expired now (book_of limit events)) ≡ Some offer)
+        ↔ (IsStanding entry.key offer events × (has_expired now offer ≡ false)
+        × (is_of (sender_of entry) offer ≡ true)) }
 {}

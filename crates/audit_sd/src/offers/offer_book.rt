@@ -8,7 +8,7 @@ ghost use Rattle.someip_tables.specs.Waits.{HoldsFrom, due_by};
 ghost use Rattle.someip_tables.specs.hashed.Dues.{WantsMemory};
 ghost use Rattle.audit_sd.specs.offers.OfferKeys.{offer_cmp};
 ghost use Rattle.audit_sd.specs.offers.OfferRules.{is_of, moved_by, offered_at, passes_at};
-ghost use Rattle.audit_sd.specs.offers.OfferTables.{FallsDue, after_due, after_entry, is_offered_by};
+ghost use Rattle.audit_sd.specs.offers.OfferTables.{FallsDue, after_due, after_entry, ended_by, is_offered_by};
 ghost use Rattle.audit_sd.specs.offers.OfferTables.{is_stored, stopped, told_by, without_sender};
 
 use crate::offers::entry::{OfferEntry, Standing};
@@ -86,6 +86,19 @@ impl OfferBook {
             return Ok(self.room.tell_full(Finding::Full));
         }
         offer(&mut self.standing, now, &entry, endpoint)
+    }
+
+    /// The offer that a StopOffer ends: the one under its key, if that is of its own sender. It is asked for
+    /// before [`OfferBook::saw`] takes note of the StopOffer.
+    pub fn ended_by(&self, entry: &OfferEntry) -> Option<Standing>
+        ensures { result ≡ ended_by entry.now self.now }
+    {
+        let offer = self.standing.get(&entry.key)?;
+        if is_of(&offer, *entry.origin.from.ip()) {
+            Some(offer)
+        } else {
+            None
+        }
     }
 
     /// Ends the offers of a sender that began again. It looks at every offer, and takes no memory.

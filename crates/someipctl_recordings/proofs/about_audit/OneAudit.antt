@@ -1,15 +1,15 @@
 -- A recording has one audit.
-use Rattle.std.proofs.Common.{◌≡◌, ℕ, List, [], ◌∷◌, None, refl, ap, sym, subst, ◌∙◌}
+use Rattle.std.proofs.Common.{◌≡◌, ℕ, List, [], ◌∷◌, None, Some, refl, ap, sym, subst, ◌∙◌}
 use Rattle.someip_audit.specs.Audits.{AuditState, Audits, Report, Seen, seen_messages}
 use Rattle.someip_audit.proofs.NextLemmas.{audits_one, drains_one, hears_one}
 use Rattle.someipctl_recordings.specs.audit.AskedAudits.{AskedAudit}
-use Rattle.someipctl_recordings.specs.audit.SeenIn.{Tells, audit_at, looked_by, looked_more, looked_of}
+use Rattle.someipctl_recordings.specs.audit.SeenIn.{Tells, audit_at, ended_with, looked_by, looked_more, looked_of, none_looked}
 
 -- as many datagrams are looked at, and messages, whichever way it is told
 looked_by_one : (last : ℕ) (datagrams : List Seen) (state : AuditState) (reports others : List Report) (after other : AuditState)
     (x : Audits last state datagrams reports after) (y : Audits last state datagrams others other)
     → looked_by last state datagrams reports after x ≡ looked_by last state datagrams others other y
-looked_by_one last [] state reports others after other x y = refl
+looked_by_one last [] state reports others after other x y = ap (λ (a : AuditState). ended_with (Some a) none_looked) (drains_one last x.0 y.0 state after other x.1 y.1).1
 looked_by_one last (seen ∷ datagrams) state reports others after other x y =
     ap (λ between. looked_more (seen_messages seen between) (looked_by seen.now x.2 datagrams x.1 after x.4))
     (drains_one seen.now x.3.told y.3.told state x.3.between y.3.between x.3.drains y.3.drains).1

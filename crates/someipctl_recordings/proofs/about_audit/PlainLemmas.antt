@@ -12,6 +12,7 @@ use Rattle.audit_traffic.specs.declared.sequence.Finding.TheVariants as events
 use Rattle.audit_sd.specs.declared.offers.OfferKey.{OfferKey}
 use Rattle.audit_sd.specs.declared.offers.Finding.TheVariants as offers
 use Rattle.audit_sd.specs.declared.receivers.Finding.TheVariants as receivers
+use Rattle.audit_sd.specs.declared.servers.Finding.TheVariants as servers
 use Rattle.audit_sd.specs.declared.sessions.Finding.TheVariants as sessions
 use Rattle.audit_sd.specs.declared.subscriptions.SubscriptionKey.{SubscriptionKey}
 use Rattle.audit_sd.specs.declared.subscriptions.Finding.TheVariants as subscriptions
@@ -105,6 +106,11 @@ gap-shape space s dot e session n to x = simp (append_assoc, append-nil)
 overtaken-shape : (space session n : List ℕ) → ((space ++ session ++ space) ++ n) ++ [] ≡ (space ++ session) ++ ((space ++ n) ++ [])
 overtaken-shape space session n = simp (append_assoc, append-nil)
 
+interface-shape : (space v expected w s dot m : List ℕ)
+    → (space ++ v) ++ (((space ++ expected ++ space) ++ w) ++ ((space ++ s) ++ ((dot ++ m) ++ [])))
+    ≡ (space ++ v) ++ ((space ++ expected) ++ ((space ++ w) ++ ((space ++ (s ++ dot ++ m)) ++ [])))
+interface-shape space v expected w s dot m = simp (append_assoc, append-nil)
+
 finding-words : (finding : Finding) → fields_text Plain (finding_fields finding) ≡ spaced (said finding).words
 finding-words (findings.Malformed fault) = malformed-words (wire.fault_name fault) (wire.fault_place fault)
 finding-words (findings.MalformedSd fault) = malformed-words (sd.fault_name fault) (sd.fault_place fault)
@@ -129,6 +135,8 @@ finding-words (findings.Call h calls.Repeated) = call-words [] h.service h.metho
 finding-words (findings.Call h calls.Unasked) = call-words [] h.service h.method h.client h.session
 finding-words (findings.Call h calls.Full) = refl
 finding-words (findings.Error h) = ap (λ (t : List ℕ). (codes " " ++ hex2 h.code.0) ++ t) (call-words [] h.service h.method h.client h.session)
+finding-words (findings.Server h (servers.Interface expected)) = interface-shape (codes " ") (hex2 h.interface) (codes "expected") (hex2 expected) (hex4 h.service) (codes ".") (hex4 h.method)
+finding-words (findings.Server h servers.NotOffered) = call-words [] h.service h.method h.client h.session
 finding-words (findings.Event delivery receivers.Unsubscribed) = event-shape (codes " ") (hex4 delivery.service) (codes ".") (hex4 delivery.event)
 finding-words (findings.Event delivery receivers.Full) = refl
 finding-words (findings.EventSession flow session events.Repeated) = repeated-shape (codes " ") (hex4 flow.service) (codes ".") (hex4 flow.event) (codes "session") (hex4 session)
@@ -139,6 +147,8 @@ finding-words (findings.EventSession flow session events.EventsFull) = refl
 finding-words (findings.EventSession flow session events.GapsFull) = refl
 finding-words (findings.Segment h refusal) = ap (λ (t : List ℕ). (codes " " ++ error_name refusal) ++ t) (call-words [] h.service h.method h.client h.session)
 finding-words findings.EndpointsFull = refl
+finding-words findings.WaysFull = refl
+finding-words findings.ServersFull = refl
 
 due-words : (told : FellDue) → fields_text Plain (due_fields told) ≡ spaced (said_of_due told).words
 due-words (due.Unanswered told) = call-words [] told.call.service told.call.method told.call.client told.call.session

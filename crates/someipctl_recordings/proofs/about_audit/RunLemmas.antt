@@ -30,13 +30,13 @@ use Rattle.someipctl_recordings.specs.declared.audit.tally.Tally.{Tally}
 use Rattle.someipctl_recordings.specs.audit.Scenes.{view_seen}
 use Rattle.someipctl_recordings.specs.audit.AskedAudits.{AskedAudit}
 use Rattle.someipctl_recordings.specs.audit.AuditResult.{BeginsAudit, IsAuditText, ShowsAudit, has_findings}
-use Rattle.someipctl_recordings.specs.audit.AuditText.{Looked, audit_text, fell_line, report_line, report_lines, summary_text, told_of}
+use Rattle.someipctl_recordings.specs.audit.AuditText.{Looked, audit_text, closing_text, fell_line, report_line, report_lines, told_of}
 use Rattle.someipctl_recordings.specs.audit.Runs.{EndsWith, PutsAudit, PutsDatagram, PutsEnd, PutsLast, PutsNext, PutsRecord, StopsDatagram, StopsEnd, StopsLast, StopsNext, StopsRecord}
-use Rattle.someipctl_recordings.specs.audit.SeenIn.{Tells, TellsSome, arrivals_in, audit_at, looked_more, looked_of, none_looked, seen_from, seen_in, seen_next}
+use Rattle.someipctl_recordings.specs.audit.SeenIn.{Tells, TellsSome, arrivals_in, audit_at, ended_with, looked_more, looked_of, none_looked, seen_from, seen_in, seen_next}
 use Rattle.someipctl_recordings.specs.audit.Steps.{CountsMore, PutsSeen, StopsSeen, fell_told}
 use Rattle.someipctl_recordings.specs.audit.Tallies.{Counts}
 use Rattle.someipctl_recordings.proofs.about_audit.StepLemmas.{counts_none, stops_here}
-use Rattle.someipctl_recordings.proofs.about_audit.SeenLemmas.{Goes, fell_told_in, heard_same, heard_told, latest, latest-append, looked_all, looked_first, looked_moved, looked_plus, seen_more, some_heard, some_same, some_step, tells_nothing, tells_step, time_now, told_on}
+use Rattle.someipctl_recordings.proofs.about_audit.SeenLemmas.{Goes, fell_told_in, heard_same, heard_told, latest, latest-append, looked_ended, looked_first, looked_moved, looked_plus, seen_more, some_heard, some_same, some_step, tells_nothing, tells_step, time_now, told_on}
 
 pub if_ok_three : {T E : Type 0} (r : Result T E) (P Q R S : T → Type 0) → ((x : T) → P x → Q x → R x → S x) → IfOk r P → IfOk r Q → IfOk r R → IfOk r S
 if_ok_three (Ok x) P Q R S f p q t = f x p q t
@@ -127,50 +127,53 @@ audited_next asked inputs ares next k r new fresh now before after later held wa
 -- ---- the end
 
 -- what fell due by the last moment was printed
-pub record IsLast (asked : AskedAudit) (now : ℕ) (audit : Option AuditState) (tally later : Tally) (a : Option (List ℕ)) (held : List ℕ) (b : Option (List ℕ)) (waits : List ℕ) : Type 0 where
+pub record IsLast (asked : AskedAudit) (now : ℕ) (audit ended : Option AuditState) (tally later : Tally) (a : Option (List ℕ)) (held : List ℕ) (b : Option (List ℕ)) (waits : List ℕ) : Type 0 where
   pub told : List FellDue
-  pub ends : EndsWith now audit told
+  pub ends : EndsWith now audit told ended
   pub sends : Sends a held b waits (flat_map (fell_line asked) told)
   pub counts : CountsMore tally later (fell_told asked told)
 
-pub last_ends : (asked : AskedAudit) (now : ℕ) (audit : Option AuditState) (tally later : Tally) (a : Option (List ℕ)) (held : List ℕ) (b : Option (List ℕ)) (waits : List ℕ) → PutsLast asked now audit tally later a held b waits
-    → IsLast asked now audit tally later a held b waits
-last_ends asked now None tally later a held b waits puts = record {
+pub last_ends : (asked : AskedAudit) (now : ℕ) (audit ended : Option AuditState) (tally later : Tally) (a : Option (List ℕ)) (held : List ℕ) (b : Option (List ℕ)) (waits : List ℕ) → PutsLast asked now audit ended tally later a held b waits
+    → IsLast asked now audit ended tally later a held b waits
+last_ends asked now None ended tally later a held b waits puts = record {
   told = [];
-  ends = refl;
-  sends = puts.1;
-  counts = subst (λ t. CountsMore tally t []) (sym puts.0) (counts_none tally);
+  ends = (refl, puts.0);
+  sends = puts.2;
+  counts = subst (λ t. CountsMore tally t []) (sym puts.1) (counts_none tally);
 }
-last_ends asked now (Some state) tally later a held b waits puts = record { told = puts.1.told; ends = (puts.0, puts.1.drains); sends = puts.1.sends; counts = puts.1.counts }
+last_ends asked now (Some state) ended tally later a held b waits puts =
+    record { told = puts.2.told; ends = (puts.0, puts.2.drains, puts.1); sends = puts.2.sends; counts = puts.2.counts }
 
 has_some : (n : ℕ) (reports : List Report) → n ≡ length reports → nat_lt 0 n ≡ has_findings reports
 has_some n [] is = ap (nat_lt 0) is
 has_some n (report ∷ reports) is = ap (nat_lt 0) is ∙ lt-ltb 0 (suc (length reports)) (omega arith)
 
-pub end_puts : (asked : AskedAudit) (gone : Gone) (audit : Option AuditState) (later : Tally) (reports : List Report) (looked : Looked) (a : Option (List ℕ)) (held : List ℕ) (b : Option (List ℕ)) (waits : List ℕ) (c : Option (List ℕ)) (new : List ℕ) (shown : ShownRecording)
-    → PutsLast asked gone.now audit gone.tally later a held b waits → Counts gone.tally reports looked
-    → ((all : List Report) → Counts later all looked → Sends b waits c new (summary_text asked.form looked all)) → shown.outcome ≡ fault_outcome (nat_lt 0 later.findings) → shown.is_full ≡ false
+pub end_puts : (asked : AskedAudit) (gone : Gone) (audit ended : Option AuditState) (later : Tally) (reports : List Report) (looked : Looked) (a : Option (List ℕ)) (held : List ℕ) (b : Option (List ℕ)) (waits : List ℕ) (c : Option (List ℕ)) (new : List ℕ) (shown : ShownRecording)
+    → PutsLast asked gone.now audit ended gone.tally later a held b waits → Counts gone.tally reports looked
+    → ((all : List Report) → Counts later all looked → Sends b waits c new (closing_text asked.form (ended_with ended looked) all)) → shown.outcome ≡ fault_outcome (nat_lt 0 later.findings) → shown.is_full ≡ false
     → PutsEnd asked gone audit reports looked a held c new shown
-end_puts asked gone audit later reports looked a held b waits c new shown puts counts summary outcome full =
-    let last = last_ends asked gone.now audit gone.tally later a held b waits puts in
+end_puts asked gone audit ended later reports looked a held b waits c new shown puts counts summary outcome full =
+    let last = last_ends asked gone.now audit ended gone.tally later a held b waits puts in
     let all = last.counts reports looked counts in
     record {
       told = last.told;
+      ended = ended;
       ends = last.ends;
-      sends = Sends-trans a b c held waits new (flat_map (fell_line asked) last.told) (summary_text asked.form looked (reports ++ fell_told asked last.told)) last.sends (summary (reports ++ fell_told asked last.told) all);
+      sends = Sends-trans a b c held waits new (flat_map (fell_line asked) last.told) (closing_text asked.form (ended_with ended looked) (reports ++ fell_told asked last.told)) last.sends (summary (reports ++ fell_told asked last.told) all);
       outcome = outcome ∙ ap fault_outcome (has_some later.findings (reports ++ fell_told asked last.told) all.findings);
       full = full;
     }
 
-pub end_stops : (asked : AskedAudit) (gone : Gone) (audit : Option AuditState) (later : Tally) (reports : List Report) (looked : Looked) (a : Option (List ℕ)) (held : List ℕ) (b : Option (List ℕ)) (waits : List ℕ) (c : Option (List ℕ))
-    → PutsLast asked gone.now audit gone.tally later a held b waits → Counts gone.tally reports looked
-    → ((all : List Report) → Counts later all looked → Stops b waits c (summary_text asked.form looked all)) → StopsEnd asked gone audit reports looked a held c
-end_stops asked gone audit later reports looked a held b waits c puts counts summary =
-    let last = last_ends asked gone.now audit gone.tally later a held b waits puts in
+pub end_stops : (asked : AskedAudit) (gone : Gone) (audit ended : Option AuditState) (later : Tally) (reports : List Report) (looked : Looked) (a : Option (List ℕ)) (held : List ℕ) (b : Option (List ℕ)) (waits : List ℕ) (c : Option (List ℕ))
+    → PutsLast asked gone.now audit ended gone.tally later a held b waits → Counts gone.tally reports looked
+    → ((all : List Report) → Counts later all looked → Stops b waits c (closing_text asked.form (ended_with ended looked) all)) → StopsEnd asked gone audit reports looked a held c
+end_stops asked gone audit ended later reports looked a held b waits c puts counts summary =
+    let last = last_ends asked gone.now audit ended gone.tally later a held b waits puts in
     inr (record {
       told = last.told;
+      ended = ended;
       ends = last.ends;
-      stops = Stops-after a b c held waits (flat_map (fell_line asked) last.told) (summary_text asked.form looked (reports ++ fell_told asked last.told)) last.sends
+      stops = Stops-after a b c held waits (flat_map (fell_line asked) last.told) (closing_text asked.form (ended_with ended looked) (reports ++ fell_told asked last.told)) last.sends
           (summary (reports ++ fell_told asked last.told) (last.counts reports looked counts));
     })
 
@@ -399,18 +402,18 @@ fell_text asked all [] = refl
 fell_text asked all (one ∷ told) = ap (λ (t : List ℕ). fell_line asked one ++ t) (fell_text asked all told)
 
 -- what fell due at the end
-ends_tells : (asked : AskedAudit) (now : ℕ) (audit : Option AuditState) (told : List FellDue) → EndsWith now audit told
-    → (t : Tells asked now audit [] (map fell told)) × (looked_of asked now audit [] (map fell told) t ≡ none_looked)
-ends_tells asked now None told ends = (ap (map fell) ends, refl)
-ends_tells asked now (Some state) told ends = ((ends.0, (told, ends.1, refl)), refl)
+ends_tells : (asked : AskedAudit) (now : ℕ) (audit ended : Option AuditState) (told : List FellDue) → EndsWith now audit told ended
+    → (t : Tells asked now audit [] (map fell told)) × (looked_of asked now audit [] (map fell told) t ≡ ended_with ended none_looked)
+ends_tells asked now None ended told ends = (ap (map fell) ends.0, ap (λ e. ended_with e none_looked) (sym ends.1))
+ends_tells asked now (Some state) ended told ends = ((ends.0, (told, ends.1, refl)), ap (λ e. ended_with e none_looked) (sym ends.2))
 
-goes_end : (asked : AskedAudit) (now : ℕ) (audit : Option AuditState) (seens : List Seen) (reports : List Report) (looked : Looked) (told : List FellDue) → EndsWith now audit told
+goes_end : (asked : AskedAudit) (now : ℕ) (audit ended : Option AuditState) (seens : List Seen) (reports : List Report) (looked : Looked) (told : List FellDue) → EndsWith now audit told ended
     → ((others : List Seen) (rest : List Report) (t : Tells asked now audit others rest) → Goes asked (seens ++ others) (reports ++ rest) (looked_plus looked (looked_of asked now audit others rest t)))
-    → Goes asked seens (reports ++ map fell told) looked
-goes_end asked now audit seens reports looked told ends goes =
-    let t = ends_tells asked now audit told ends in
+    → Goes asked seens (reports ++ map fell told) (ended_with ended looked)
+goes_end asked now audit ended seens reports looked told ends goes =
+    let t = ends_tells asked now audit ended told ends in
     let so = goes [] (map fell told) t.0 in
-    subst (λ (l : List Seen). Goes asked l (reports ++ map fell told) looked) (append-nil seens) (so.0, so.1 ∙ ap (looked_plus looked) t.1 ∙ looked_all looked)
+    subst (λ (l : List Seen). Goes asked l (reports ++ map fell told) (ended_with ended looked)) (append-nil seens) (so.0, so.1 ∙ ap (looked_plus looked) t.1 ∙ looked_ended ended looked)
 
 -- those that are told before the end, and of what fell due then
 told_end : (asked : AskedAudit) (ds : List ArrivalValue) (reports : List Report) (told : List FellDue)
@@ -420,11 +423,11 @@ told_end asked ds reports told =
 
 -- the text before the summary, and with it
 text_end : (asked : AskedAudit) (ds : List ArrivalValue) (reports : List Report) (told : List FellDue) (looked : Looked)
-    → report_lines asked ds reports ++ (flat_map (fell_line asked) told ++ summary_text asked.form looked (told_of asked ds reports ++ fell_told asked told))
+    → report_lines asked ds reports ++ (flat_map (fell_line asked) told ++ closing_text asked.form looked (told_of asked ds reports ++ fell_told asked told))
     ≡ audit_text asked ds (reports ++ map fell told) looked
 text_end asked ds reports told looked =
-    let summary = summary_text asked.form looked (told_of asked ds (reports ++ map fell told)) in
-    ap (λ (l : List Report). report_lines asked ds reports ++ (flat_map (fell_line asked) told ++ summary_text asked.form looked l)) (told_end asked ds reports told)
+    let summary = closing_text asked.form looked (told_of asked ds (reports ++ map fell told)) in
+    ap (λ (l : List Report). report_lines asked ds reports ++ (flat_map (fell_line asked) told ++ closing_text asked.form looked l)) (told_end asked ds reports told)
     ∙ sym (append_assoc (report_lines asked ds reports) (flat_map (fell_line asked) told) summary)
     ∙ ap (λ (t : List ℕ). (report_lines asked ds reports ++ t) ++ summary) (fell_text asked ds told)
     ∙ ap (λ (t : List ℕ). t ++ summary) (lines_on asked ds reports (map fell told))
@@ -464,14 +467,14 @@ audit_whole : (asked : AskedAudit) (inputs ares : List (Option (List ℕ))) (k :
     → PutsEnd asked gone audit (told_now asked is.done is.reports) is.looked later waits last rest shown → shown.fault ≡ fault → shown.left_out ≡ left_out_at s → PutsAudit inputs asked shown before last rest
 audit_whole asked inputs ares k r before after later last held waits rest audit gone s items fault shown is f sends empty untaken end faulty left =
     let ds = came asked is.done in
-    let goes = goes_end asked gone.now audit (seen_in ds) is.reports is.looked end.told end.ends is.goes in
+    let goes = goes_end asked gone.now audit end.ended (seen_in ds) is.reports is.looked end.told end.ends is.goes in
     let text : EndText asked shown before last rest (arrivals_in asked.wanted.packets f.files) =
     subst (EndText asked shown before last rest) (sym (whole_datagrams asked f.files is.done items f.came empty)) (
       is.reports ++ map fell end.told,
       goes.0,
       subst (λ l. Sends before [] last rest (audit_text asked ds (is.reports ++ map fell end.told) l)) (sym goes.1)
-          (subst (Sends before [] last rest) (text_end asked ds is.reports end.told is.looked)
-          (Sends-trans before later last [] waits rest (report_lines asked ds is.reports) (flat_map (fell_line asked) end.told ++ summary_text asked.form is.looked (told_now asked is.done is.reports ++ fell_told asked end.told))
+          (subst (Sends before [] last rest) (text_end asked ds is.reports end.told (ended_with end.ended is.looked))
+          (Sends-trans before later last [] waits rest (report_lines asked ds is.reports) (flat_map (fell_line asked) end.told ++ closing_text asked.form (ended_with end.ended is.looked) (told_now asked is.done is.reports ++ fell_told asked end.told))
           (sent_before asked inputs ares k r before after later held waits audit gone s is sends) end.sends)),
       end.outcome ∙ ap (λ (l : List Report). fault_outcome (has_findings l)) (told_end asked ds is.reports end.told),
     ) in
@@ -542,14 +545,14 @@ whole_stops asked inputs ares k r before after later last held waits audit gone 
     (Stops-after before later last [] waits (report_lines asked ds is.reports) (flat_map (fell_line asked) fallen.told) (sent_before asked inputs ares k r before after later held waits audit gone s is sends) fallen.stops))
 whole_stops asked inputs ares k r before after later last held waits audit gone s items fault is f sends empty (inr end) =
     let ds = came asked is.done in
-    let goes = goes_end asked gone.now audit (seen_in ds) is.reports is.looked end.told end.ends is.goes in
+    let goes = goes_end asked gone.now audit end.ended (seen_in ds) is.reports is.looked end.told end.ends is.goes in
     begins_whole asked inputs before last f.files f.left
     (subst (StopText asked before last) (sym (whole_datagrams asked f.files is.done items f.came empty)) (
       is.reports ++ map fell end.told,
       goes.0,
       subst (λ l. Stops before [] last (audit_text asked ds (is.reports ++ map fell end.told) l)) (sym goes.1)
-          (subst (Stops before [] last) (text_end asked ds is.reports end.told is.looked)
-          (Stops-after before later last [] waits (report_lines asked ds is.reports) (flat_map (fell_line asked) end.told ++ summary_text asked.form is.looked (told_now asked is.done is.reports ++ fell_told asked end.told))
+          (subst (Stops before [] last) (text_end asked ds is.reports end.told (ended_with end.ended is.looked))
+          (Stops-after before later last [] waits (report_lines asked ds is.reports) (flat_map (fell_line asked) end.told ++ closing_text asked.form (ended_with end.ended is.looked) (told_now asked is.done is.reports ++ fell_told asked end.told))
           (sent_before asked inputs ares k r before after later held waits audit gone s is sends) end.stops)),
     ))
 

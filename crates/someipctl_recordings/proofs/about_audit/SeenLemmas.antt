@@ -19,7 +19,7 @@ use Rattle.someipctl_recordings.specs.declared.audit.subject.Subject.{Subject}
 use Rattle.someipctl_recordings.specs.audit.AskedAudits.{AskedAudit}
 use Rattle.someipctl_recordings.specs.audit.AuditText.{Looked, due_line, fell_line, finding_line, found_line, is_due_told, is_found_told, is_report_told, line_if, line_of_report, origin_of_due, report_line, report_lines, time_at, time_of, told_of}
 use Rattle.someipctl_recordings.specs.audit.Subjects.{ChoosesNone, is_told, subject, subject_of_due}
-use Rattle.someipctl_recordings.specs.audit.SeenIn.{AuditsSome, StopsAt, Tells, TellsSome, audit_at, looked_more, looked_of, none_looked, seen_from, seen_in, seen_next}
+use Rattle.someipctl_recordings.specs.audit.SeenIn.{ended_with, AuditsSome, StopsAt, Tells, TellsSome, audit_at, looked_more, looked_of, none_looked, seen_from, seen_in, seen_next}
 use Rattle.someipctl_recordings.specs.audit.Steps.{fell_told, is_told_at, line_at}
 use Rattle.someipctl_recordings.proofs.about_audit.StepLemmas.{fell_told_at, told_more}
 
@@ -160,7 +160,7 @@ all_told asked all (found origin finding ∷ reports) none =
 -- ---- how many were looked at
 
 abbrev pub looked_plus : Looked → Looked → Looked
-looked_plus l m = record { datagrams = l.datagrams + m.datagrams; messages = l.messages + m.messages }
+looked_plus l m = record { datagrams = l.datagrams + m.datagrams; messages = l.messages + m.messages; passed = l.passed + m.passed; ended = m.ended }
 
 plus_one : (a b : ℕ) → a + (b + 1) ≡ (a + 1) + b
 plus_one a b = omega arith
@@ -169,17 +169,17 @@ plus_some : (a b n : ℕ) → a + (b + n) ≡ (a + n) + b
 plus_some a b n = omega arith
 
 pub looked_moved : (n : Option ℕ) (l m : Looked) → looked_plus l (looked_more n m) ≡ looked_plus (looked_more n l) m
-looked_moved None l m = refl
+looked_moved None l m = rw (plus_one l.passed m.passed) refl
 looked_moved (Some n) l m = rw (plus_one l.datagrams m.datagrams, plus_some l.messages m.messages n) refl
 
-pub looked_all : (l : Looked) → looked_plus l none_looked ≡ l
-looked_all l = rw (add-zero l.datagrams, add-zero l.messages) refl
+pub looked_ended : (ended : Option AuditState) (l : Looked) → looked_plus l (ended_with ended none_looked) ≡ ended_with ended l
+looked_ended ended l = rw (add-zero l.datagrams, add-zero l.messages, add-zero l.passed) refl
 
 none_more : (n : ℕ) → 0 + n ≡ n
 none_more n = omega arith
 
 pub looked_first : (l : Looked) → looked_plus none_looked l ≡ l
-looked_first l = rw (none_more l.datagrams, none_more l.messages) refl
+looked_first l = rw (none_more l.datagrams, none_more l.messages, none_more l.passed) refl
 
 -- ---- what is told
 

@@ -134,10 +134,18 @@ seen_lines asked time origin told findings =
     ∙ sym (flat_map-append (line_at asked time) (map fell told) (map (found origin) findings))
 
 counts_looked : (t : Tally) (n : Option ℕ) (reports : List Report) (looked : Looked) → Counts t reports looked → Counts (tally_looked n t) reports (looked_more n looked)
-counts_looked t None reports looked counts = counts
+counts_looked t None reports looked counts = record {
+  datagrams = counts.datagrams;
+  messages = counts.messages;
+  passed = ap (λ k. k + 1) counts.passed;
+  findings = counts.findings;
+  size = counts.size;
+  kinds = counts.kinds;
+}
 counts_looked t (Some n) reports looked counts = record {
   datagrams = ap (λ k. k + 1) counts.datagrams;
   messages = ap (λ k. k + n) counts.messages;
+  passed = counts.passed;
   findings = counts.findings;
   size = counts.size;
   kinds = counts.kinds;

@@ -1,16 +1,20 @@
 -- What was counted.
-use Rattle.std.proofs.Common.{◌≡◌, ◌==◌, ℕ, ◌+◌, ◌<◌, Bool, true, false, List, [], ◌∷◌, ◌++◌, length, refl, sym, ap, ◌∙◌, cond, lit<, add-zero, eqb-true, length-append}
+use Rattle.std.proofs.Common.{◌≡◌, ◌==◌, ℕ, ◌+◌, ◌<◌, Bool, true, false, List, [], ◌∷◌, ◌++◌, length, Option, refl, sym, ap, ◌∙◌, cond, lit<, add-zero, eqb-true, length-append}
 use Rattle.std.proofs.lemmas.Bool.{eqb-false}
 use Rattle.std.proofs.lemmas.List.{get_or-set_other, get_or-set_same, length-set}
 use Rattle.std.proofs.lemmas.List.Sums.{sum_by_push}
 use Rattle.std.specs.List.{flat_map, slice_index, slice_set}
-use Rattle.someip_audit.specs.Audits.{Report}
+use Rattle.someip_audit.specs.Audits.{AuditState, Report}
 use Rattle.someipctl_io.specs.declared.form.Form.{Form}
+use Rattle.someipctl_io.specs.declared.form.Form.TheVariants.{Json, Plain}
+use Rattle.someipctl_io.specs.Sending.{Sends, Stops}
 use Rattle.someipctl_recordings.specs.declared.audit.kind.Kind.{Kind}
 use Rattle.someipctl_recordings.specs.declared.audit.kind.Kind.TheVariants.{Malformed}
 use Rattle.someipctl_recordings.specs.declared.audit.tally.Tally.{Tally}
 use Rattle.someipctl_recordings.specs.audit.Kinds.{all_kinds, kind_number}
-use Rattle.someipctl_recordings.specs.audit.AuditText.{Looked, audited_line, count_of, kind_line, kind_of, summary_text}
+use Rattle.someipctl_recordings.specs.audit.AuditText.{Looked, audited_line, closing_text, count_of, kind_line, kind_of, summary_text}
+use Rattle.someipctl_recordings.specs.audit.SeenIn.{ended_with}
+use Rattle.someipctl_recordings.specs.audit.Unjudged.{unjudged_text}
 use Rattle.someipctl_recordings.specs.audit.Tallies.{Counts, tally_after, tally_kinds, looked_in, tally_line}
 
 -- ---- the summary
@@ -22,19 +26,35 @@ same_kinds form t reports looked (kind ∷ kinds) counts =
     ap (λ n. kind_line form kind n ++ tally_kinds form t.kinds kinds) (counts.kinds kind)
     ∙ ap (λ (text : List ℕ). kind_line form kind (count_of kind reports) ++ text) (same_kinds form t reports looked kinds counts)
 
-same_looked : (t : Tally) (reports : List Report) (looked : Looked) → Counts t reports looked → looked_in t ≡ looked
-same_looked t reports looked counts = rw (counts.datagrams, counts.messages) refl
+same_line : (form : Form) (t : Tally) (reports : List Report) (looked : Looked) (n : ℕ) → Counts t reports looked → audited_line form (looked_in t) n ≡ audited_line form looked n
+same_line Plain t reports looked n counts = rw (counts.datagrams, counts.messages) refl
+same_line Json t reports looked n counts = rw (counts.datagrams, counts.messages) refl
 
 pub same_summary : (form : Form) (t : Tally) (reports : List Report) (looked : Looked) → Counts t reports looked
     → tally_line form t ++ tally_kinds form t.kinds all_kinds ≡ summary_text form looked reports
 same_summary form t reports looked counts =
-    ap (λ l. audited_line form l t.findings ++ tally_kinds form t.kinds all_kinds) (same_looked t reports looked counts)
+    ap (λ (text : List ℕ). text ++ tally_kinds form t.kinds all_kinds) (same_line form t reports looked t.findings counts)
     ∙ ap (λ n. audited_line form looked n ++ tally_kinds form t.kinds all_kinds) counts.findings
     ∙ ap (λ (text : List ℕ). audited_line form looked (length reports) ++ text) (same_kinds form t reports looked all_kinds counts)
 
+-- ---- the summary, and what an audit could not judge at its end
+
+module _ (ended : Option AuditState) (looked : Looked) (reports : List Report) where
+  pub closing_sends : (form : Form) (a : Option (List ℕ)) (held : List ℕ) (b : Option (List ℕ)) (waits : List ℕ)
+      → Sends a held b waits (summary_text form looked reports ++ unjudged_text form looked.passed ended)
+      → Sends a held b waits (closing_text form (ended_with ended looked) reports)
+  closing_sends Plain a held b waits sends = sends
+  closing_sends Json a held b waits sends = sends
+
+  pub closing_stops : (form : Form) (a : Option (List ℕ)) (held : List ℕ) (b : Option (List ℕ))
+      → Stops a held b (summary_text form looked reports ++ unjudged_text form looked.passed ended)
+      → Stops a held b (closing_text form (ended_with ended looked) reports)
+  closing_stops Plain a held b stops = stops
+  closing_stops Json a held b stops = stops
+
 -- ---- one more
 
-below : (kind : Kind) → kind_number kind < 25
+below : (kind : Kind) → kind_number kind < 27
 below Malformed = lit< tt
 below _ = lit< tt
 
@@ -56,6 +76,7 @@ counts_more t reports looked report counts =
     record {
       datagrams = counts.datagrams;
       messages = counts.messages;
+      passed = counts.passed;
       findings = ap (λ n. n + 1) counts.findings ∙ sym (length-append reports (report ∷ []));
       size = length-set t.kinds n (slice_index t.kinds n + 1) ∙ counts.size;
       kinds = λ kind.

@@ -10,7 +10,7 @@ use Rattle.someip_audit.specs.declared.Finding.{Finding}
 use Rattle.someip_audit.specs.declared.FellDue.{FellDue}
 use Rattle.someip_audit.specs.declared.FellDue.TheVariants as due
 use Rattle.someip_audit.specs.FellDues.{deadline}
-use Rattle.someip_audit.specs.Audits.{Report, fell, found}
+use Rattle.someip_audit.specs.Audits.{AuditState, Report, fell, found}
 use Rattle.someipctl_io.specs.declared.CannotWrite.{CannotWrite}
 use Rattle.someipctl_io.specs.declared.form.Form.{Form}
 use Rattle.someipctl_io.specs.declared.form.Form.TheVariants.{Plain, Json}
@@ -25,6 +25,7 @@ use Rattle.someipctl_recordings.specs.audit.Kinds.{all_kinds, kind_name, kind_nu
 use Rattle.someipctl_recordings.specs.audit.Said.{Said, said, said_of_due, said_text}
 use Rattle.someipctl_recordings.specs.audit.ToldFindings.{audit_head, due_told, finding_told, kind_told}
 use Rattle.someipctl_recordings.specs.audit.Subjects.{is_told, subject, subject_of_due}
+use Rattle.someipctl_recordings.specs.audit.Unjudged.{unjudged_text}
 
 -- ---- a plain line
 
@@ -120,10 +121,13 @@ kind_of (found origin finding) = (said finding).kind
 abbrev pub count_of : Kind → List Report → ℕ
 count_of kind reports = count_by (λ report. kind_number (kind_of report) == kind_number kind) reports
 
--- how many datagrams were looked at, and how many messages in them can be read
+-- how many datagrams were looked at, how many messages in them can be read, how many were not looked at, and the audit at its
+-- end, if it began
 pub record Looked : Type 0 where
   pub datagrams : ℕ
   pub messages : ℕ
+  pub passed : ℕ
+  pub ended : Option AuditState
 
 -- what its first line tells: how many datagrams and messages, and how many findings are told
 abbrev pub audited_told : Looked → ℕ → ToldLine
@@ -153,11 +157,15 @@ kind_line form kind n = if n == 0 then [] else counted_line form kind n
 abbrev pub summary_text : Form → Looked → List Report → List ℕ
 summary_text form looked reports = audited_line form looked (length reports) ++ flat_map (λ kind. kind_line form kind (count_of kind reports)) all_kinds
 
+-- the summary, and what could not be judged
+abbrev pub closing_text : Form → Looked → List Report → List ℕ
+closing_text form looked reports = summary_text form looked reports ++ unjudged_text form looked.passed looked.ended
+
 -- ---- the whole
 
--- the text of these reports of these datagrams: the lines of those that are told, and their summary
+-- the text of these reports of these datagrams: the lines of those that are told, their summary, and what could not be judged
 abbrev pub audit_text : AskedAudit → List ArrivalValue → List Report → Looked → List ℕ
-audit_text asked arrivals reports looked = report_lines asked arrivals reports ++ summary_text asked.form looked (told_of asked arrivals reports)
+audit_text asked arrivals reports looked = report_lines asked arrivals reports ++ closing_text asked.form looked (told_of asked arrivals reports)
 
 -- ---- what becomes of a line
 

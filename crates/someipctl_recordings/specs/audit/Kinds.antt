@@ -1,7 +1,7 @@
 -- The kinds of findings, as the summary of an audit names them.
 use Rattle.std.specs.Prelude.{ℕ, ◌==◌, if◌then◌else◌, List, [], ◌∷◌, map, codes}
 use Rattle.someipctl_recordings.specs.declared.audit.kind.Kind.{Kind}
-use Rattle.someipctl_recordings.specs.declared.audit.kind.Kind.TheVariants.{Malformed, BadRun, NoEndpoint, Reboot, SdSession, SdOvertaken, Unanswered, Late, Error, Unasked, Repeated, KeyReused, EventRepeated, EventOvertaken, EventGap, EventUnsubscribed, Segments, SegmentsMissing, OfferExpired, OfferMoved, Nack, SubscribeUnanswered, UnaskedAck, UnaskedNack, Full}
+use Rattle.someipctl_recordings.specs.declared.audit.kind.Kind.TheVariants.{Malformed, BadRun, NoEndpoint, Reboot, SdSession, SdOvertaken, Unanswered, Late, Error, Unasked, Repeated, KeyReused, Interface, NotOffered, EventRepeated, EventOvertaken, EventGap, EventUnsubscribed, Segments, SegmentsMissing, OfferExpired, OfferMoved, Nack, SubscribeUnanswered, UnaskedAck, UnaskedNack, Full}
 
 -- the words of a kind
 abbrev pub kind_words : Kind → List ℕ
@@ -17,6 +17,8 @@ kind_words Error = codes "error"
 kind_words Unasked = codes "unasked"
 kind_words Repeated = codes "repeated"
 kind_words KeyReused = codes "key reused"
+kind_words Interface = codes "interface"
+kind_words NotOffered = codes "not offered"
 kind_words EventRepeated = codes "event repeated"
 kind_words EventOvertaken = codes "event overtaken"
 kind_words EventGap = codes "event gap"
@@ -38,7 +40,7 @@ kind_name kind = map (λ b. if b == 0x20 then 0x2D else b) (kind_words kind)
 -- all of them, in the order of the summary
 unfoldable pub all_kinds : List Kind
 all_kinds =
-    Malformed ∷ BadRun ∷ NoEndpoint ∷ Reboot ∷ SdSession ∷ SdOvertaken ∷ Unanswered ∷ Late ∷ Error ∷ Unasked ∷ Repeated ∷ KeyReused ∷ EventRepeated
+    Malformed ∷ BadRun ∷ NoEndpoint ∷ Reboot ∷ SdSession ∷ SdOvertaken ∷ Unanswered ∷ Late ∷ Error ∷ Unasked ∷ Repeated ∷ KeyReused ∷ Interface ∷ NotOffered ∷ EventRepeated
     ∷ EventOvertaken ∷ EventGap ∷ EventUnsubscribed ∷ Segments ∷ SegmentsMissing ∷ OfferExpired ∷ OfferMoved ∷ Nack ∷ SubscribeUnanswered ∷ UnaskedAck ∷ UnaskedNack ∷ Full ∷ []
 
 -- the number of a kind in that order, by which kinds are told apart
@@ -55,16 +57,18 @@ kind_number Error = 8
 kind_number Unasked = 9
 kind_number Repeated = 10
 kind_number KeyReused = 11
-kind_number EventRepeated = 12
-kind_number EventOvertaken = 13
-kind_number EventGap = 14
-kind_number EventUnsubscribed = 15
-kind_number Segments = 16
-kind_number SegmentsMissing = 17
-kind_number OfferExpired = 18
-kind_number OfferMoved = 19
-kind_number Nack = 20
-kind_number SubscribeUnanswered = 21
-kind_number UnaskedAck = 22
-kind_number UnaskedNack = 23
-kind_number Full = 24
+kind_number Interface = 12
+kind_number NotOffered = 13
+kind_number EventRepeated = 14
+kind_number EventOvertaken = 15
+kind_number EventGap = 16
+kind_number EventUnsubscribed = 17
+kind_number Segments = 18
+kind_number SegmentsMissing = 19
+kind_number OfferExpired = 20
+kind_number OfferMoved = 21
+kind_number Nack = 22
+kind_number SubscribeUnanswered = 23
+kind_number UnaskedAck = 24
+kind_number UnaskedNack = 25
+kind_number Full = 26

@@ -14,9 +14,9 @@ use Rattle.someipctl_recordings.specs.declared.audit.auditing.SeenDatagram.{Seen
 use Rattle.someipctl_recordings.specs.declared.audit.tally.Tally.{Tally}
 use Rattle.someipctl_recordings.specs.audit.AskedAudits.{AskedAudit}
 use Rattle.someipctl_recordings.specs.audit.AuditResult.{has_findings, left_out_in}
-use Rattle.someipctl_recordings.specs.audit.AuditText.{Looked, audit_text, fell_line, summary_text, told_of}
+use Rattle.someipctl_recordings.specs.audit.AuditText.{Looked, audit_text, closing_text, fell_line, told_of}
 use Rattle.someipctl_recordings.specs.audit.Scenes.{view_seen}
-use Rattle.someipctl_recordings.specs.audit.SeenIn.{Tells, audit_at, arrivals_in, looked_of, seen_in, seen_next}
+use Rattle.someipctl_recordings.specs.audit.SeenIn.{Tells, audit_at, arrivals_in, ended_with, looked_of, seen_in, seen_next}
 use Rattle.someipctl_recordings.specs.audit.Steps.{PutsDue, PutsSeen, StopsDue, StopsSeen, fell_told}
 
 -- ---- the next datagram
@@ -61,32 +61,34 @@ StopsRecord asked None before gone a held b = StopsHere a held b
 -- ---- the end
 
 -- everything that fell due by the last moment was printed and counted, if an audit began
-abbrev pub PutsLast : AskedAudit → ℕ → Option AuditState → Tally → Tally → Option (List ℕ) → List ℕ → Option (List ℕ) → List ℕ → Type 0
-PutsLast asked now None tally later a held b waits = (later ≡ tally) × Sends a held b waits []
-PutsLast asked now (Some state) tally later a held b waits = (after : AuditState) × PutsDue asked now state after tally later a held b waits
+abbrev pub PutsLast : AskedAudit → ℕ → Option AuditState → Option AuditState → Tally → Tally → Option (List ℕ) → List ℕ → Option (List ℕ) → List ℕ → Type 0
+PutsLast asked now None ended tally later a held b waits = (ended ≡ None) × (later ≡ tally) × Sends a held b waits []
+PutsLast asked now (Some state) ended tally later a held b waits = (after : AuditState) × (ended ≡ Some after) × PutsDue asked now state after tally later a held b waits
 
 abbrev pub StopsLast : AskedAudit → ℕ → Option AuditState → Option (List ℕ) → List ℕ → Option (List ℕ) → Type 0
 StopsLast asked now None a held b = ⊥
 StopsLast asked now (Some state) a held b = StopsDue asked now state a held b
 
--- this fell due by the last moment, if an audit began
-abbrev pub EndsWith : ℕ → Option AuditState → List FellDue → Type 0
-EndsWith now None told = told ≡ []
-EndsWith now (Some state) told = (after : AuditState) × Drains now state told after
+-- this fell due by the last moment, if an audit began, which is this one at its end
+abbrev pub EndsWith : ℕ → Option AuditState → List FellDue → Option AuditState → Type 0
+EndsWith now None told ended = (told ≡ []) × (ended ≡ None)
+EndsWith now (Some state) told ended = (after : AuditState) × Drains now state told after × (ended ≡ Some after)
 
 -- what fell due by the last moment was printed, and the summary, where these reports were told before
 pub record PutsEnd (asked : AskedAudit) (gone : Gone) (audit : Option AuditState) (reports : List Report) (looked : Looked) (a : Option (List ℕ)) (held : List ℕ) (b : Option (List ℕ)) (waits : List ℕ) (shown : ShownRecording) : Type 0 where
   pub told : List FellDue
-  pub ends : EndsWith gone.now audit told
-  pub sends : Sends a held b waits (flat_map (fell_line asked) told ++ summary_text asked.form looked (reports ++ fell_told asked told))
+  pub ended : Option AuditState
+  pub ends : EndsWith gone.now audit told ended
+  pub sends : Sends a held b waits (flat_map (fell_line asked) told ++ closing_text asked.form (ended_with ended looked) (reports ++ fell_told asked told))
   pub outcome : shown.outcome ≡ fault_outcome (has_findings (reports ++ fell_told asked told))
   pub full : shown.is_full ≡ false
 
 -- some of it was
 pub record StopsSummary (asked : AskedAudit) (gone : Gone) (audit : Option AuditState) (reports : List Report) (looked : Looked) (a : Option (List ℕ)) (held : List ℕ) (b : Option (List ℕ)) : Type 0 where
   pub told : List FellDue
-  pub ends : EndsWith gone.now audit told
-  pub stops : Stops a held b (flat_map (fell_line asked) told ++ summary_text asked.form looked (reports ++ fell_told asked told))
+  pub ended : Option AuditState
+  pub ends : EndsWith gone.now audit told ended
+  pub stops : Stops a held b (flat_map (fell_line asked) told ++ closing_text asked.form (ended_with ended looked) (reports ++ fell_told asked told))
 
 abbrev pub StopsEnd : AskedAudit → Gone → Option AuditState → List Report → Looked → Option (List ℕ) → List ℕ → Option (List ℕ) → Type 0
 StopsEnd asked gone audit reports looked a held b = StopsLast asked gone.now audit a held b ⊎ StopsSummary asked gone audit reports looked a held b

@@ -14,6 +14,8 @@ use Rattle.audit_sd.specs.declared.offers.Finding.{Finding as OfferFinding}
 use Rattle.audit_sd.specs.declared.offers.Finding.TheVariants as offers
 use Rattle.audit_sd.specs.declared.receivers.Finding.{Finding as ReceiverFinding}
 use Rattle.audit_sd.specs.declared.receivers.Finding.TheVariants as receivers
+use Rattle.audit_sd.specs.declared.servers.Finding.{Finding as ServerFinding}
+use Rattle.audit_sd.specs.declared.servers.Finding.TheVariants as servers
 use Rattle.audit_sd.specs.declared.sessions.Finding.{Finding as SessionFinding}
 use Rattle.audit_sd.specs.declared.sessions.Finding.TheVariants as sessions
 use Rattle.audit_sd.specs.declared.subscriptions.SubscriptionKey.{SubscriptionKey}
@@ -102,6 +104,11 @@ said_of_call h calls.Repeated = says kinds.Repeated (header_words h)
 said_of_call h calls.Unasked = says kinds.Unasked (header_words h)
 said_of_call h calls.Full = full (codes "calls")
 
+-- a message, by its server
+abbrev pub said_of_server : Header → ServerFinding → Said
+said_of_server h (servers.Interface expected) = says kinds.Interface (hex2 h.interface ∷ codes "expected" ∷ hex2 expected ∷ ids_text h.service h.method ∷ [])
+said_of_server h servers.NotOffered = says kinds.NotOffered (header_words h)
+
 abbrev pub said_of_event : EventFlow → ℕ → EventFinding → Said
 said_of_event flow session events.Repeated = says kinds.EventRepeated (ids_text flow.service flow.event ∷ codes "session" ∷ hex4 session ∷ [])
 said_of_event flow session events.Overtaken = says kinds.EventOvertaken (ids_text flow.service flow.event ∷ codes "session" ∷ hex4 session ∷ [])
@@ -123,10 +130,13 @@ said (findings.Subscription key shown) = said_of_subscription key shown
 said (findings.Receiver key shown) = said_of_receivers key.service key.eventgroup shown
 said (findings.Call h shown) = said_of_call h shown
 said (findings.Error h) = says kinds.Error (hex2 h.code.0 ∷ header_words h)
+said (findings.Server h shown) = said_of_server h shown
 said (findings.Event delivery shown) = said_of_receivers delivery.service delivery.event shown
 said (findings.EventSession flow session shown) = said_of_event flow session shown
 said (findings.Segment h refusal) = says kinds.Segments (error_name refusal ∷ header_words h)
 said findings.EndpointsFull = full (codes "endpoints")
+said findings.WaysFull = full (codes "ways")
+said findings.ServersFull = full (codes "servers")
 
 -- ---- what fell due
 

@@ -53,23 +53,27 @@ Tells asked last audit (seen ∷ others) reports = (after : AuditState) × Audit
 
 -- ---- how many are looked at
 
--- one more datagram, if it is looked at, with so many messages
+-- one more datagram, with so many messages where it is looked at
 abbrev pub looked_more : Option ℕ → Looked → Looked
-looked_more None looked = looked
-looked_more (Some n) looked = record { datagrams = looked.datagrams + 1; messages = looked.messages + n }
+looked_more None looked = record looked { passed = looked.passed + 1 }
+looked_more (Some n) looked = record looked { datagrams = looked.datagrams + 1; messages = looked.messages + n }
 
 abbrev pub none_looked : Looked
-none_looked = record { datagrams = 0; messages = 0 }
+none_looked = record { datagrams = 0; messages = 0; passed = 0; ended = None }
 
--- how many of these datagrams an audit looked at that told this
+-- the audit is this one at its end
+abbrev pub ended_with : Option AuditState → Looked → Looked
+ended_with ended looked = record looked { ended = ended }
+
+-- how many of these datagrams an audit looked at that told this, and what it is then
 abbrev pub looked_by : (last : ℕ) (state : AuditState) (seens : List Seen) (reports : List Report) (after : AuditState) → Audits last state seens reports after → Looked
-looked_by last state [] reports after audits = none_looked
+looked_by last state [] reports after audits = ended_with (Some after) none_looked
 looked_by last state (seen ∷ others) reports after audits =
     looked_more (seen_messages seen audits.3.between) (looked_by seen.now audits.2 others audits.1 after audits.4)
 
 abbrev pub looked_of : (asked : AskedAudit) (last : ℕ) (audit : Option AuditState) (seens : List Seen) (reports : List Report) → Tells asked last audit seens reports → Looked
 looked_of asked last None [] reports tells = none_looked
-looked_of asked last (Some state) [] reports tells = none_looked
+looked_of asked last (Some state) [] reports tells = ended_with (Some tells.0) none_looked
 looked_of asked last audit (seen ∷ others) reports tells = looked_by last (audit_at asked audit seen) (seen ∷ others) reports tells.0 tells.1
 
 -- ---- a beginning of it

@@ -81,10 +81,13 @@ subject (findings.Subscription key shown) = subject_of_subscription key.service 
 subject (findings.Receiver key shown) = subject_of_receivers (about_service key.service) shown
 subject (findings.Call h shown) = subject_of_call h shown
 subject (findings.Error h) = Some (about_call h.service h.method h.client)
+subject (findings.Server h shown) = Some (about_call h.service h.method h.client)
 subject (findings.Event delivery shown) = subject_of_receivers (about_event delivery.service delivery.event) shown
 subject (findings.EventSession flow session shown) = subject_of_event flow.service flow.event shown
 subject (findings.Segment h refusal) = Some (about_call h.service h.method h.client)
 subject findings.EndpointsFull = None
+subject findings.WaysFull = None
+subject findings.ServersFull = None
 
 -- what fell due is about a call, a message, an offer, a subscription or an event
 abbrev pub subject_of_due : FellDue → Subject

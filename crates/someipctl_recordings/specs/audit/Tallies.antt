@@ -16,31 +16,32 @@ tally_after kind t = record t { reports = t.reports + 1; findings = t.findings +
 abbrev pub tally_passed : Tally → Tally
 tally_passed t = record t { reports = t.reports + 1 }
 
--- one more datagram, if it is looked at, with so many messages
+-- one more datagram, with so many messages where it is looked at
 abbrev pub tally_looked : Option ℕ → Tally → Tally
-tally_looked None t = t
+tally_looked None t = record t { passed = t.passed + 1 }
 tally_looked (Some n) t = record t { datagrams = t.datagrams + 1; messages = t.messages + n }
 
--- the greatest number after that: of all findings, of those that are told, and of those of the kind; of the datagrams, and of their messages
+-- the greatest number after that: of all findings, of those that are told, and of those of the kind; of the datagrams, or of those that are not looked at, and of their messages
 abbrev pub most_told : Kind → Tally → ℕ
 most_told kind t = max (max (t.reports + 1) (t.findings + 1)) (slice_index t.kinds (kind_number kind) + 1)
 
 abbrev pub most_looked : Option ℕ → Tally → ℕ
-most_looked None t = 0
+most_looked None t = t.passed + 1
 most_looked (Some n) t = max (t.datagrams + 1) (t.messages + n)
 
 -- these reports and datagrams were counted
 pub record Counts (t : Tally) (reports : List Report) (looked : Looked) : Type 0 where
   pub datagrams : t.datagrams ≡ looked.datagrams
   pub messages : t.messages ≡ looked.messages
+  pub passed : t.passed ≡ looked.passed
   pub findings : t.findings ≡ length reports
-  pub size : length t.kinds ≡ 25
+  pub size : length t.kinds ≡ 27
   pub kinds : (kind : Kind) → slice_index t.kinds (kind_number kind) ≡ count_of kind reports
 
 -- ---- the text of what was counted
 
 abbrev pub looked_in : Tally → Looked
-looked_in t = record { datagrams = t.datagrams; messages = t.messages }
+looked_in t = record { datagrams = t.datagrams; messages = t.messages; passed = t.passed; ended = None }
 
 abbrev pub tally_line : Form → Tally → List ℕ
 tally_line form t = audited_line form (looked_in t) t.findings

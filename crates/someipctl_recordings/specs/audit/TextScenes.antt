@@ -21,6 +21,7 @@ use Rattle.someipctl_io.specs.declared.form.Form.TheVariants.{Plain}
 use Rattle.someipctl_show.specs.declared.services.AskedService.{AskedService}
 use Rattle.someipctl_recordings.specs.Wanted.{WantedValue, all_wanted}
 use Rattle.someipctl_recordings.specs.audit.AskedAudits.{AskedAudit}
+use Rattle.someipctl_recordings.specs.audit.AuditText.{Looked}
 
 -- an endpoint of node n
 abbrev pub socket : ℕ → ℕ → SocketAddrV4
@@ -36,6 +37,10 @@ header_1 = record { service = 0x1234; method = 0x0421; client = 0x0101; session 
 -- the answer to it that its method is not known
 abbrev pub error_1 : Header
 error_1 = record header_1 { kind = Error; code = record { 0 = 3 } }
+
+-- the same with another version
+abbrev pub other_1 : Header
+other_1 = record header_1 { interface = 2 }
 
 -- the instance of its service
 abbrev pub instance_1 : ServiceInstance
@@ -131,3 +136,7 @@ of_address address = asks (record all_wanted { addresses = Some (address ∷ [])
 
 abbrev pub before : Time → AskedAudit
 before until = asks (record all_wanted { until = Some until })
+
+-- three datagrams of four messages were looked at
+abbrev pub three_datagrams : Looked
+three_datagrams = record { datagrams = 3; messages = 4; passed = 0; ended = None }

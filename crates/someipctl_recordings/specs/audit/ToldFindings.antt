@@ -16,6 +16,8 @@ use Rattle.audit_sd.specs.declared.offers.Finding.{Finding as OfferFinding}
 use Rattle.audit_sd.specs.declared.offers.Finding.TheVariants as offers
 use Rattle.audit_sd.specs.declared.receivers.Finding.{Finding as ReceiverFinding}
 use Rattle.audit_sd.specs.declared.receivers.Finding.TheVariants as receivers
+use Rattle.audit_sd.specs.declared.servers.Finding.{Finding as ServerFinding}
+use Rattle.audit_sd.specs.declared.servers.Finding.TheVariants as servers
 use Rattle.audit_sd.specs.declared.sessions.Finding.{Finding as SessionFinding}
 use Rattle.audit_sd.specs.declared.sessions.Finding.TheVariants as sessions
 use Rattle.audit_sd.specs.declared.subscriptions.SubscriptionKey.{SubscriptionKey}
@@ -81,6 +83,14 @@ header_fields lead h = call_fields lead h.service h.method h.client h.session
 abbrev pub error_fields : Header → List ToldField
 error_fields h = field (codes " ") (codes "code") (byte h.code.0) ∷ header_fields (codes " ") h
 
+-- the version of a message, the one that was expected, and its Message ID
+abbrev pub interface_fields : ℕ → Header → List ToldField
+interface_fields expected h =
+    field (codes " ") (codes "interface") (byte h.interface)
+    ∷ field (codes " expected ") (codes "expected") (byte expected)
+    ∷ field (codes " ") (codes "service") (id h.service)
+    ∷ field (codes ".") (codes "method") (id h.method) ∷ []
+
 -- an instance of a service
 abbrev pub instance_fields : ServiceInstance → List ToldField
 instance_fields about = field (codes " ") (codes "service") (id about.service) ∷ field (codes ".") (codes "instance") (id about.instance) ∷ []
@@ -143,6 +153,11 @@ fields_of_call h calls.Repeated = header_fields (codes " ") h
 fields_of_call h calls.Unasked = header_fields (codes " ") h
 fields_of_call h calls.Full = full_fields (codes "calls")
 
+-- a message, by its server
+abbrev pub fields_of_server : Header → ServerFinding → List ToldField
+fields_of_server h (servers.Interface expected) = interface_fields expected h
+fields_of_server h servers.NotOffered = header_fields (codes " ") h
+
 abbrev pub fields_of_event : EventFlow → ℕ → EventFinding → List ToldField
 fields_of_event flow session events.Repeated = event_fields flow.service flow.event ++ session_field session ∷ []
 fields_of_event flow session events.Overtaken = event_fields flow.service flow.event ++ session_field session ∷ []
@@ -163,10 +178,13 @@ finding_fields (findings.Subscription key shown) = fields_of_subscription key sh
 finding_fields (findings.Receiver key shown) = fields_of_receivers key.service key.eventgroup shown
 finding_fields (findings.Call h shown) = fields_of_call h shown
 finding_fields (findings.Error h) = error_fields h
+finding_fields (findings.Server h shown) = fields_of_server h shown
 finding_fields (findings.Event delivery shown) = fields_of_receivers delivery.service delivery.event shown
 finding_fields (findings.EventSession flow session shown) = fields_of_event flow session shown
 finding_fields (findings.Segment h refusal) = field (codes " ") (codes "name") (text (error_name refusal)) ∷ header_fields (codes " ") h
 finding_fields findings.EndpointsFull = full_fields (codes "endpoints")
+finding_fields findings.WaysFull = full_fields (codes "ways")
+finding_fields findings.ServersFull = full_fields (codes "servers")
 
 -- ---- what fell due
 

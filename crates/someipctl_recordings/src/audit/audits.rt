@@ -4,6 +4,7 @@
 //! counts them, so that a line can be found in both; the summary counts those that were looked at.
 ghost use Rattle.std.specs.Prelude.{◌≡◌, ◌≤◌, ◌<◌, ◌+◌, ◌^◌, [], IfErr, IfOk, List, None, OnErr, OnOk, Some, length, map};
 ghost use Rattle.someipctl_io.specs.declared.Fault.TheVariants.{CannotRead};
+ghost use Rattle.someipctl_io.specs.Sending.{Sends, Stops};
 ghost use Rattle.recording.specs.View.{view_record};
 ghost use Rattle.recording_packets.specs.View.{view_arrival};
 ghost use Rattle.someip_audit.specs.Audits.{Report};
@@ -12,17 +13,18 @@ ghost use Rattle.someipctl_recordings.specs.Moments.{moment_of};
 ghost use Rattle.someipctl_recordings.specs.audit.AskedAudits.{learns, view_asked};
 ghost use Rattle.someipctl_recordings.specs.Wanted.{ports_of, view_wanted};
 ghost use Rattle.someipctl_recordings.specs.audit.AuditResult.{BeginsAudit, ShowsAudit};
-ghost use Rattle.someipctl_recordings.specs.audit.AuditText.{Looked};
+ghost use Rattle.someipctl_recordings.specs.audit.AuditText.{Looked, closing_text};
 ghost use Rattle.someipctl_recordings.specs.audit.Runs.{PutsAudit, PutsDatagram, PutsEnd, PutsLast, PutsNext, PutsRecord};
 ghost use Rattle.someipctl_recordings.specs.audit.Runs.{StopsDatagram, StopsEnd, StopsLast, StopsNext, StopsRecord};
 ghost use Rattle.someipctl_recordings.specs.audit.Scenes.{view_seen};
-ghost use Rattle.someipctl_recordings.specs.audit.SeenIn.{audit_at, none_looked, seen_next};
+ghost use Rattle.someipctl_recordings.specs.audit.SeenIn.{audit_at, ended_with, none_looked, seen_next};
 ghost use Rattle.someipctl_recordings.specs.audit.Tallies.{Counts};
 
 use crate::audit::asked::AuditAsked;
 use crate::audit::auditing::{SeenDatagram, put_due, put_seen};
 use crate::audit::summary::put_summary;
 use crate::audit::tally::Tally;
+use crate::audit::unjudged::put_unjudged;
 use crate::moments::moment_of;
 use crate::read_loop::{Coming, next_coming};
 use crate::reassembly::socket_of;
@@ -34,7 +36,7 @@ use someip_audit::{Audit, Finding, WatchRules};
 use someip_reassembly::Reassembly;
 use someip_tables::Moment;
 use someip_tables::hashed::{Numbers, Origin};
-use someipctl_io::{Buffer, Fault, Outcome};
+use someipctl_io::{Buffer, Fault, Form, Outcome};
 use std::alloc::{AllocError, Global};
 use std::convert::Infallible;
 use std::io::{Read, Write};
@@ -325,7 +327,7 @@ fn watch_of<'w>(wanted: &Wanted<'w>) -> WatchRules<'w>
     }
 }
 
-/// Prints what fell due by the last moment, and the summary.
+/// Prints what fell due by the last moment, the summary, and what could not be judged.
 fn put_end<S: Reassembly + Drop, W: Write>(
     buffer: &mut Buffer,
     writer: &mut W,
@@ -353,13 +355,41 @@ fn put_end<S: Reassembly + Drop, W: Write>(
         gone.now,
         &mut gone.tally,
     )?;
-    put_summary(buffer, writer, asked.form, &gone.tally)?;
+    put_closing(
+        buffer,
+        writer,
+        asked.form,
+        auditing.alloc,
+        &gone.tally,
+        &auditing.audit,
+    )?;
     Ok(ShownRecording {
         outcome: Outcome::of(gone.tally.findings > 0),
         left_out,
         is_full: false,
         fault,
     })
+}
+
+/// Prints the summary of what was counted, and what an audit could not judge, if it began.
+fn put_closing<S: Reassembly + Drop, W: Write>(
+    buffer: &mut Buffer,
+    writer: &mut W,
+    form: Form,
+    alloc: Global,
+    tally: &Tally,
+    audit: &Option<Audit<S>>,
+) -> Result<(), Fault<Infallible>>
+    ensures puts { (reports : List Report) (looked : Looked) → Counts tally.now reports looked
+        → OnOk result (Sends (W.contents writer.old) buffer.old (W.contents writer.new)
+        buffer.new (closing_text form (ended_with audit.now looked) reports)) }
+    ensures stops { (reports : List Report) (looked : Looked) → Counts tally.now reports looked
+        → OnErr result (Stops (W.contents writer.old) buffer.old (W.contents writer.new)
+        (closing_text form (ended_with audit.now looked) reports)) }
+    ensures read { IfErr result (λ fault. fault ≡ CannotRead → ⊥) }
+{
+    put_summary(buffer, writer, form, tally)?;
+    put_unjudged(buffer, writer, form, alloc, tally.passed, audit)
 }
 
 /// Prints what fell due by the last moment, if an audit began.
@@ -371,7 +401,7 @@ fn put_last<S: Reassembly + Drop, W: Write>(
     now: Moment,
     tally: &mut Tally,
 ) -> Result<(), Fault<Infallible>>
-    ensures puts { OnOk result (PutsLast (view_asked asked.now) now audit.old tally.old tally.new
+    ensures puts { OnOk result (PutsLast (view_asked asked.now) now audit.old audit.new tally.old tally.new
         (W.contents writer.old) buffer.old (W.contents writer.new) buffer.new) }
     ensures stops { OnErr result (StopsLast (view_asked asked.now) now audit.old
         (W.contents writer.old) buffer.old (W.contents writer.new)) }

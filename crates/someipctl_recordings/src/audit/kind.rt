@@ -29,6 +29,10 @@ pub enum Kind {
     Repeated,
     /// A call has the key of one that is open.
     KeyReused,
+    /// A message has another version than its server offers.
+    Interface,
+    /// A call went to a server that is offered no more.
+    NotOffered,
     /// An event came twice.
     EventRepeated,
     /// An event came after a later one.
@@ -58,7 +62,7 @@ pub enum Kind {
 }
 
 /// How many kinds there are.
-pub(crate) const KIND_COUNT: usize = 25;
+pub(crate) const KIND_COUNT: usize = 27;
 
 /// All kinds, in the order of the summary.
 #[tactic(auto, unfolding(crate::specs::audit::Kinds::all_kinds))]
@@ -78,6 +82,8 @@ pub(crate) fn kinds() -> [Kind; KIND_COUNT]
         Kind::Unasked,
         Kind::Repeated,
         Kind::KeyReused,
+        Kind::Interface,
+        Kind::NotOffered,
         Kind::EventRepeated,
         Kind::EventOvertaken,
         Kind::EventGap,
@@ -112,6 +118,8 @@ impl Kind {
             Kind::Unasked => "unasked",
             Kind::Repeated => "repeated",
             Kind::KeyReused => "key reused",
+            Kind::Interface => "interface",
+            Kind::NotOffered => "not offered",
             Kind::EventRepeated => "event repeated",
             Kind::EventOvertaken => "event overtaken",
             Kind::EventGap => "event gap",
@@ -145,6 +153,8 @@ impl Kind {
             Kind::Unasked => "unasked",
             Kind::Repeated => "repeated",
             Kind::KeyReused => "key-reused",
+            Kind::Interface => "interface",
+            Kind::NotOffered => "not-offered",
             Kind::EventRepeated => "event-repeated",
             Kind::EventOvertaken => "event-overtaken",
             Kind::EventGap => "event-gap",

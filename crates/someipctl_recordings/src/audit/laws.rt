@@ -9,6 +9,7 @@ ghost use Rattle.audit_traffic.specs.declared.calls.CallFinding.TheVariants as c
 ghost use Rattle.audit_traffic.specs.declared.sequence.Finding.TheVariants as events;
 ghost use Rattle.audit_sd.specs.declared.offers.Finding.TheVariants as offers;
 ghost use Rattle.audit_sd.specs.declared.receivers.Finding.TheVariants as receivers;
+ghost use Rattle.audit_sd.specs.declared.servers.Finding.TheVariants as servers;
 ghost use Rattle.audit_sd.specs.declared.sessions.Finding.TheVariants as sessions;
 ghost use Rattle.audit_sd.specs.declared.subscriptions.Finding.TheVariants as subscriptions;
 ghost use Rattle.someip_audit.specs.declared.FellDue.TheVariants as due;
@@ -28,8 +29,10 @@ ghost use Rattle.someipctl_recordings.specs.audit.AuditText.{time_at, told_of};
 ghost use Rattle.someipctl_recordings.specs.audit.Said.{said, said_of_due, said_text};
 ghost use Rattle.someipctl_recordings.specs.audit.SeenIn.{Tells, looked_of};
 ghost use Rattle.someipctl_recordings.specs.audit.Subjects.{ChoosesNone};
-ghost use Rattle.someipctl_recordings.specs.audit.TextScenes.{before, method_of, of_address, of_client, of_services, whole_service};
+ghost use Rattle.someipctl_recordings.specs.audit.TextScenes.{before, method_of, of_address, of_client, of_services, three_datagrams};
+ghost use Rattle.someipctl_recordings.specs.audit.TextScenes.{whole_service};
 ghost use Rattle.someipctl_recordings.specs.audit.TextScenes.{error_1, event_1, flow_1, header_1, instance_1, key_1, offer_1, origin_1};
+ghost use Rattle.someipctl_recordings.specs.audit.TextScenes.{other_1};
 ghost use Rattle.someipctl_recordings.specs.audit.TextScenes.{expired_1, lost_1, missing_1, subscribe_1, unanswered_1};
 
 /// What the lines of findings say, by example.
@@ -56,6 +59,11 @@ pub fn findings_have_texts()
         ≡ codes " repeated 1234.0421 client 0101 session 0002\n" }
     ensures key_reused { said_text (said (findings.Call header_1 calls.KeyReused))
         ≡ codes " key reused 1234.0421 client 0101 session 0002\n" }
+    ensures interface { said_text (said (findings.Server other_1 (servers.Interface 1)))
+        ≡ codes " interface 02 expected 01 1234.0421\n" }
+    ensures not_offered { said_text (said (findings.Server header_1 servers.NotOffered))
+        ≡ codes " not offered 1234.0421 client 0101 session 0002\n" }
+    ensures servers { said_text (said findings.ServersFull) ≡ codes " full servers\n" }
     ensures twice { said_text (said (findings.EventSession flow_1 9 events.Repeated))
         ≡ codes " event repeated 1234.8001 session 0009\n" }
     ensures event_overtaken { said_text (said (findings.EventSession flow_1 9 events.Overtaken))
@@ -78,6 +86,7 @@ pub fn findings_have_texts()
         ≡ codes " unasked nack 1234.0001 major 02 group 0005 counter 3\n" }
     ensures full { said_text (said (findings.Event event_1 receivers.Full)) ≡ codes " full receivers\n" }
     ensures endpoints { said_text (said findings.EndpointsFull) ≡ codes " full endpoints\n" }
+    ensures ways { said_text (said findings.WaysFull) ≡ codes " full ways\n" }
 {}
 
 /// Whole lines, by example: that of a finding has the time of its datagram, and that of what fell due its
@@ -131,6 +140,10 @@ pub fn findings_are_objects()
         ≡ codes "{\"kind\":\"no-endpoint\",\"datagram\":12,\"time\":null,\"from\":\"192.168.0.1:40000\",\"to\":\"192.168.0.2:30490\",\"service\":\"1234\",\"instance\":\"0001\"}\n" }
     ensures error { finding_line Json false None origin_1 (findings.Error error_1)
         ≡ codes "{\"kind\":\"error\",\"datagram\":12,\"time\":null,\"from\":\"192.168.0.1:40000\",\"to\":\"192.168.0.2:30490\",\"code\":\"03\",\"service\":\"1234\",\"method\":\"0421\",\"client\":\"0101\",\"session\":\"0002\"}\n" }
+    ensures interface { finding_line Json false None origin_1 (findings.Server other_1 (servers.Interface 1))
+        ≡ codes "{\"kind\":\"interface\",\"datagram\":12,\"time\":null,\"from\":\"192.168.0.1:40000\",\"to\":\"192.168.0.2:30490\",\"interface\":\"02\",\"expected\":\"01\",\"service\":\"1234\",\"method\":\"0421\"}\n" }
+    ensures not_offered { finding_line Json false None origin_1 (findings.Server header_1 servers.NotOffered)
+        ≡ codes "{\"kind\":\"not-offered\",\"datagram\":12,\"time\":null,\"from\":\"192.168.0.1:40000\",\"to\":\"192.168.0.2:30490\",\"service\":\"1234\",\"method\":\"0421\",\"client\":\"0101\",\"session\":\"0002\"}\n" }
     ensures gap { finding_line Json false None origin_1 (findings.EventSession flow_1 0x59 (events.Lost 7 0x58))
         ≡ codes "{\"kind\":\"event-gap\",\"datagram\":12,\"time\":null,\"from\":\"192.168.0.1:40000\",\"to\":\"192.168.0.2:30490\",\"service\":\"1234\",\"event\":\"8001\",\"session\":\"0007\",\"last\":\"0058\"}\n" }
     ensures overtaken { finding_line Json false None origin_1
@@ -170,6 +183,12 @@ pub fn findings_are_told_by_what_they_name()
     ensures error { is_found_told (of_services (method_of 0x1234 0x0421)) None origin_1 (findings.Error error_1)
         ≡ true }
     ensures error_of_client { is_found_told (of_client 0x0101) None origin_1 (findings.Error error_1) ≡ true }
+    ensures interface { is_found_told (of_services (method_of 0x1234 0x0421)) None origin_1
+        (findings.Server other_1 (servers.Interface 1)) ≡ true }
+    ensures not_offered { is_found_told (of_client 0x0101) None origin_1
+        (findings.Server header_1 servers.NotOffered) ≡ true }
+    ensures servers { is_found_told (of_services (whole_service 0x1235)) None origin_1 findings.ServersFull
+        ≡ true }
     ensures client { is_due_told (of_client 0x0101) (due.Unanswered unanswered_1) ≡ true }
     ensures other_client { is_due_told (of_client 0x0102) (due.Unanswered unanswered_1) ≡ false }
     ensures address { is_due_told (of_address 0xC0A80001) (due.Unanswered unanswered_1) ≡ true }
@@ -195,19 +214,21 @@ pub fn all_findings_are_told()
 
 /// The summary, by example: kinds that did not come are not named.
 pub fn a_summary_counts_by_kind()
-    ensures some { summary_text Plain (record { datagrams = 3; messages = 4 })
+    ensures some { summary_text Plain three_datagrams
         (found origin_1 (findings.Session sessions.Full) ∷ found origin_1 (findings.Session sessions.Reboot)
         ∷ found origin_1 findings.EndpointsFull ∷ [])
         ≡ codes "audited 3 datagrams, 4 messages, 3 findings\nreboot 1\nfull 2\n" }
-    ensures in_order { summary_text Plain (record { datagrams = 3; messages = 4 })
-        (found origin_1 (findings.Call header_1 calls.Unasked) ∷ found origin_1 (findings.Error error_1)
+    ensures in_order { summary_text Plain three_datagrams
+        (found origin_1 (findings.Server header_1 servers.NotOffered)
+        ∷ found origin_1 (findings.Server other_1 (servers.Interface 1))
+        ∷ found origin_1 (findings.Call header_1 calls.Unasked) ∷ found origin_1 (findings.Error error_1)
         ∷ found origin_1 (findings.Call header_1 (calls.Late 300)) ∷ found origin_1 (findings.Session sessions.Reboot)
         ∷ found origin_1 (findings.NoEndpoint instance_1) ∷ found origin_1 (findings.BadRun instance_1)
         ∷ found origin_1 (findings.Malformed (wire.Truncated 47)) ∷ [])
-        ≡ codes "audited 3 datagrams, 4 messages, 7 findings\nmalformed 1\nbad run 1\nno endpoint 1\nreboot 1\nlate 1\nerror 1\nunasked 1\n" }
-    ensures none { summary_text Plain (record { datagrams = 3; messages = 4 }) []
+        ≡ codes "audited 3 datagrams, 4 messages, 9 findings\nmalformed 1\nbad run 1\nno endpoint 1\nreboot 1\nlate 1\nerror 1\nunasked 1\ninterface 1\nnot offered 1\n" }
+    ensures none { summary_text Plain three_datagrams []
         ≡ codes "audited 3 datagrams, 4 messages, 0 findings\n" }
-    ensures objects { summary_text Json (record { datagrams = 3; messages = 4 })
+    ensures objects { summary_text Json three_datagrams
         (found origin_1 (findings.Session (sessions.NotNext (record { session = 7; reboot = true })
         (record { session = 6; reboot = true }))) ∷ found origin_1 findings.EndpointsFull ∷ [])
         ≡ codes "{\"kind\":\"audited\",\"datagrams\":3,\"messages\":4,\"findings\":2}\n{\"kind\":\"sd-session\",\"count\":1}\n{\"kind\":\"full\",\"count\":1}\n" }

@@ -1,17 +1,21 @@
 //! What the line of a finding says.
-ghost use Rattle.std.specs.Prelude.{◌≡◌, ◌∷◌, [], ◌++◌, codes, map};
-ghost use Rattle.someipctl_io.specs.ToldLines.{field, number, text};
+ghost use Rattle.std.specs.Prelude.{◌≡◌, map};
 ghost use Rattle.someipctl_io.specs.ToldViews.{view_field, view_head, view_said};
 ghost use Rattle.someipctl_recordings.specs.audit.AuditText.{PutsLine};
 ghost use Rattle.someipctl_recordings.specs.audit.Said.{said, said_of_call, said_of_due, said_of_event, said_of_offer};
-ghost use Rattle.someipctl_recordings.specs.audit.Said.{said_of_receivers, said_of_session, said_of_subscription};
-ghost use Rattle.someipctl_recordings.specs.audit.ToldFindings.{call_fields, due_fields, error_fields, event_fields, expected_field};
-ghost use Rattle.someipctl_recordings.specs.audit.ToldFindings.{fields_of_call, fields_of_event, fields_of_offer};
-ghost use Rattle.someipctl_recordings.specs.audit.ToldFindings.{fields_of_receivers, fields_of_session, fields_of_subscription};
-ghost use Rattle.someipctl_recordings.specs.audit.ToldFindings.{finding_fields, full_fields, header_fields, instance_fields, malformed_fields};
-ghost use Rattle.someipctl_recordings.specs.audit.ToldFindings.{last_field, offer_fields, session_field, subscription_fields};
+ghost use Rattle.someipctl_recordings.specs.audit.Said.{said_of_receivers, said_of_server, said_of_session};
+ghost use Rattle.someipctl_recordings.specs.audit.Said.{said_of_subscription};
+ghost use Rattle.someipctl_recordings.specs.audit.ToldFindings.{due_fields, fields_of_call, fields_of_event, fields_of_offer};
+ghost use Rattle.someipctl_recordings.specs.audit.ToldFindings.{fields_of_receivers, fields_of_server, fields_of_session};
+ghost use Rattle.someipctl_recordings.specs.audit.ToldFindings.{fields_of_subscription, finding_fields, full_fields};
+ghost use Rattle.someipctl_recordings.specs.audit.ToldFindings.{malformed_fields};
 ghost use Rattle.someipctl_recordings.specs.declared.audit.kind.Kind.TheVariants as kinds;
 
+use crate::audit::fields::{
+    call_fields, error_fields, event_fields, event_session_fields, expected_field, header_fields,
+    instance_fields, interface_fields, last_field, late_fields, offer_fields, segment_fields,
+    session_field, subscription_fields,
+};
 use crate::audit::kind::Kind;
 use crate::heads::field_of;
 use audit_sd::offers::OfferKey;
@@ -19,7 +23,7 @@ use audit_sd::subscriptions::SubscriptionKey;
 use audit_traffic::calls::CallFinding;
 use audit_traffic::events::EventFlow;
 use audit_traffic::sequence;
-use someip_audit::{FellDue, Finding, ServiceInstance};
+use someip_audit::{FellDue, Finding};
 use someip_wire::Header;
 use someipctl_io::{Buffer, CannotWrite, Field, Line, LineHead, Said, put_line};
 use std::io::Write;
@@ -72,6 +76,7 @@ pub(crate) fn put_finding<W: Write>(
         Finding::Error(header) => {
             put_said(buffer, writer, head, Kind::Error, &error_fields(header))
         }
+        Finding::Server(header, shown) => put_server(buffer, writer, head, header, shown),
         Finding::Event(delivery, shown) => {
             put_receivers(
                 buffer,
@@ -90,6 +95,8 @@ pub(crate) fn put_finding<W: Write>(
             put_said(buffer, writer, head, Kind::Segments, &fields)
         }
         Finding::EndpointsFull => put_full(buffer, writer, head, "endpoints"),
+        Finding::WaysFull => put_full(buffer, writer, head, "ways"),
+        Finding::ServersFull => put_full(buffer, writer, head, "servers"),
     }
 }
 
@@ -310,6 +317,30 @@ fn put_call<W: Write>(
     }
 }
 
+/// Prints what a message with this header shows, as to its server.
+fn put_server<W: Write>(
+    buffer: &mut Buffer,
+    writer: &mut W,
+    head: &LineHead<'_>,
+    header: &Header,
+    shown: &audit_sd::servers::Finding,
+) -> Result<Kind, CannotWrite>
+    ensures { PutsLine head.now.form (view_head head.now) (said_of_server header.now shown.now).kind
+        (fields_of_server header.now shown.now) result
+        (W.contents writer.old) buffer.old (W.contents writer.new) buffer.new }
+{
+    match shown {
+        audit_sd::servers::Finding::Interface { expected } => {
+            let fields = interface_fields(*expected, header);
+            put_said(buffer, writer, head, Kind::Interface, &fields)
+        }
+        audit_sd::servers::Finding::NotOffered => {
+            let fields = header_fields(" ", header);
+            put_said(buffer, writer, head, Kind::NotOffered, &fields)
+        }
+    }
+}
+
 /// Prints what an event with this session shows, by its session.
 fn put_event<W: Write>(
     buffer: &mut Buffer,
@@ -360,137 +391,4 @@ fn put_said<W: Write>(
     };
     put_line(buffer, writer, head, &line)?;
     Ok(kind)
-}
-
-/// The Message ID and the Request ID of a message with this header, the first behind this text.
-fn header_fields(lead: &'static str, header: &Header) -> [Field<'static>; 4]
-    ensures { map view_field result ≡ header_fields lead.now header.now }
-{
-    call_fields(
-        lead,
-        header.service,
-        header.method,
-        header.client,
-        header.session,
-    )
-}
-
-/// A Message ID and a Request ID, the first behind this text.
-fn call_fields(
-    lead: &'static str,
-    service: u16,
-    method: u16,
-    client: u16,
-    session: u16,
-) -> [Field<'static>; 4]
-    ensures { map view_field result ≡ call_fields lead.now service method client session }
-{
-    [
-        field_of(lead, "service", Said::Id(service)),
-        field_of(".", "method", Said::Id(method)),
-        field_of(" client ", "client", Said::Id(client)),
-        session_field(session),
-    ]
-}
-
-/// How many milliseconds late an answer with this header came.
-fn late_fields(millis: u64, header: &Header) -> [Field<'static>; 5]
-    ensures { map view_field result
-        ≡ field (codes " ") (codes "ms") (number millis) ∷ header_fields (codes " ms ") header.now }
-{
-    let [service, method, client, session] = header_fields(" ms ", header);
-    let late = field_of(" ", "ms", Said::Number(millis as usize));
-    [late, service, method, client, session]
-}
-
-/// The return code of an answer with this header, and its call.
-fn error_fields(header: &Header) -> [Field<'static>; 5]
-    ensures { map view_field result ≡ error_fields header.now }
-{
-    let [service, method, client, session] = header_fields(" ", header);
-    let code = field_of(" ", "code", Said::Byte(header.code.0));
-    [code, service, method, client, session]
-}
-
-/// Why a segment with this header is refused.
-fn segment_fields<'n>(name: &'n str, header: &Header) -> [Field<'n>; 5]
-    ensures { map view_field result
-        ≡ field (codes " ") (codes "name") (text name.entry.now) ∷ header_fields (codes " ") header.now }
-{
-    let [service, method, client, session] = header_fields(" ", header);
-    let refusal = field_of(" ", "name", Said::Text(name));
-    [refusal, service, method, client, session]
-}
-
-/// An instance of a service.
-fn instance_fields(about: &ServiceInstance) -> [Field<'static>; 2]
-    ensures { map view_field result ≡ instance_fields about.now }
-{
-    [
-        field_of(" ", "service", Said::Id(about.service)),
-        field_of(".", "instance", Said::Id(about.instance)),
-    ]
-}
-
-/// An offer.
-fn offer_fields(key: &OfferKey) -> [Field<'static>; 3]
-    ensures { map view_field result ≡ offer_fields key.now }
-{
-    [
-        field_of(" ", "service", Said::Id(key.service)),
-        field_of(".", "instance", Said::Id(key.instance)),
-        field_of(" major ", "major", Said::Byte(key.major)),
-    ]
-}
-
-/// A subscription.
-fn subscription_fields(key: &SubscriptionKey) -> [Field<'static>; 5]
-    ensures { map view_field result ≡ subscription_fields key.now }
-{
-    [
-        field_of(" ", "service", Said::Id(key.service)),
-        field_of(".", "instance", Said::Id(key.instance)),
-        field_of(" major ", "major", Said::Byte(key.major)),
-        field_of(" group ", "group", Said::Id(key.eventgroup)),
-        field_of(" counter ", "counter", Said::Number(key.counter as usize)),
-    ]
-}
-
-/// An event of a service.
-fn event_fields(service: u16, event: u16) -> [Field<'static>; 2]
-    ensures { map view_field result ≡ event_fields service event }
-{
-    [
-        field_of(" ", "service", Said::Id(service)),
-        field_of(".", "event", Said::Id(event)),
-    ]
-}
-
-/// An event of a flow, and a session.
-fn event_session_fields(flow: &EventFlow, session: u16) -> [Field<'static>; 3]
-    ensures { map view_field result ≡ event_fields flow.now.service flow.now.event ++ session_field session ∷ [] }
-{
-    let [service, event] = event_fields(flow.service, flow.event);
-    [service, event, session_field(session)]
-}
-
-/// A session.
-fn session_field(session: u16) -> Field<'static>
-    ensures { view_field result ≡ session_field session }
-{
-    field_of(" session ", "session", Said::Id(session))
-}
-
-/// The last of several sessions.
-fn last_field(last: u16) -> Field<'static>
-    ensures { view_field result ≡ last_field last }
-{
-    field_of(" to ", "last", Said::Id(last))
-}
-
-/// The session that was expected.
-fn expected_field(expected: u16) -> Field<'static>
-    ensures { view_field result ≡ expected_field expected }
-{
-    field_of(" expected ", "expected", Said::Id(expected))
 }

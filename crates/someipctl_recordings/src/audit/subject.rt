@@ -85,7 +85,9 @@ pub(crate) fn subject_of(finding: &Finding) -> Option<Subject>
         | Finding::Call(_, CallFinding::Full)
         | Finding::Event(_, receivers::Finding::Full)
         | Finding::EventSession(_, _, sequence::Finding::EventsFull | sequence::Finding::GapsFull)
-        | Finding::EndpointsFull => None,
+        | Finding::EndpointsFull
+        | Finding::WaysFull
+        | Finding::ServersFull => None,
         Finding::Malformed(_)
         | Finding::MalformedSd(_)
         | Finding::NoTpHeader(_)
@@ -101,7 +103,7 @@ pub(crate) fn subject_of(finding: &Finding) -> Option<Subject>
         }
         Finding::Event(delivery, _) => Some(Subject::event(delivery.service, delivery.event)),
         Finding::EventSession(flow, _, _) => Some(Subject::event(flow.service, flow.event)),
-        Finding::Error(header) | Finding::Segment(header, _) => {
+        Finding::Error(header) | Finding::Server(header, _) | Finding::Segment(header, _) => {
             Some(Subject::call(header.service, header.method, header.client))
         }
     }

@@ -98,7 +98,7 @@ fn audited_fields(tally: &Tally) -> [Field<'static>; 3]
 }
 
 /// Prints an object of a kind.
-fn put_object<'l, W: Write>(
+pub(crate) fn put_object<'l, W: Write>(
     buffer: &mut Buffer,
     writer: &mut W,
     kind: &'l str,

@@ -3,6 +3,7 @@
 //! Where 2^64 things were counted, the audit ends as where memory runs out: no recording has so many
 //! datagrams.
 ghost use Rattle.std.specs.Prelude.{◌≡◌, ◌≤◌, ◌<◌, ◌+◌, ◌^◌, [], IfOk, OnErr, OnOk};
+ghost use Rattle.someipctl_recordings.specs.audit.SeenIn.{none_looked};
 ghost use Rattle.someipctl_recordings.specs.audit.Tallies.{Counts, most_looked, most_told, tally_after, tally_looked, tally_passed};
 
 use crate::audit::kind::{KIND_COUNT, Kind};
@@ -15,6 +16,8 @@ pub(crate) struct Tally {
     pub(crate) datagrams: usize,
     /// How many messages in them can be read.
     pub(crate) messages: usize,
+    /// How many datagrams were not looked at.
+    pub(crate) passed: usize,
     /// How many findings there were, told or not.
     pub(crate) reports: usize,
     /// How many findings were told.
@@ -26,11 +29,12 @@ pub(crate) struct Tally {
 impl Tally {
     /// Nothing yet.
     pub(crate) fn new() -> Tally
-        ensures { Counts result [] (record { datagrams = 0; messages = 0 }) }
+        ensures { Counts result [] none_looked }
     {
         Tally {
             datagrams: 0,
             messages: 0,
+            passed: 0,
             reports: 0,
             findings: 0,
             kinds: [0; KIND_COUNT],
@@ -63,13 +67,14 @@ impl Tally {
         Ok(())
     }
 
-    /// Counts one more datagram, if it is looked at, with so many messages. The error is that there is no
+    /// Counts one more datagram, with so many messages where it is looked at. The error is that there is no
     /// room for their number.
     pub(crate) fn look(&mut self, messages: Option<usize>) -> Result<(), AllocError>
         ensures looked { OnOk result (self.new ≡ tally_looked messages self.old) }
         ensures full { OnErr result (2 ^ 64 ≤ most_looked messages self.old) }
     {
         let Some(messages) = messages else {
+            self.passed = one_more(self.passed)?;
             return Ok(());
         };
         let datagrams = one_more(self.datagrams)?;

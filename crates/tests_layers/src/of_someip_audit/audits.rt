@@ -42,18 +42,23 @@ enum Told {
     /// At byte 20.
     EntriesLength,
     EndpointsFull,
+    ServersFull,
     /// Code 03.
     UnknownMethod,
     /// Of instance 1 of service 1000.
     BadRun,
     NoEndpoint,
+    /// Version 1 was expected.
+    Version,
+    NotOffered,
     Other,
 }
 
 use Told::{
     BadRun, EndpointsFull, EntriesLength, Expired, Gap, Late, Missing, Nack, NoEndpoint,
-    NoTpHeader, OfferFull, Other, Overtaken, Reboot, Repeated, SubscribeUnanswered, Truncated,
-    Unanswered, UnaskedAck, UnaskedNack, UnknownMethod, Unsubscribed,
+    NoTpHeader, NotOffered, OfferFull, Other, Overtaken, Reboot, Repeated, ServersFull,
+    SubscribeUnanswered, Truncated, Unanswered, UnaskedAck, UnaskedNack, UnknownMethod,
+    Unsubscribed, Version,
 };
 
 /// A datagram: at a moment, from a port of a node to a port of a node, with these bytes; what is told
@@ -118,6 +123,8 @@ const ODD_ENTRIES: &str =
 /// A segment of an event with a payload of 3 bytes.
 const SHORT_SEGMENT: &str = "100080010000000b0000000101012200000001";
 
+/// The REQUEST with session 1 and Interface Version 2.
+const REQUEST_OF_2: &str = "1000000100000009000100010102000001";
 /// The answer to the REQUEST with session 1 that its method is not known: an ERROR with code 03.
 const ERROR_1: &str = "10000001000000080001000101018103";
 /// An Offer without options, session 1.
@@ -272,6 +279,29 @@ const UNASKED: &[Row] = &[
     ),
 ];
 
+/// A server whose offer ends: it is asked by another version before, and twice after.
+const SERVERS: &[Row] = &[
+    Row(100, (9, 30490), (0, 30490), OFFER, &[], Some(1)),
+    Row(
+        200,
+        (1, 40000),
+        (9, 30509),
+        REQUEST_OF_2,
+        &[Version],
+        Some(1),
+    ),
+    Row(300, (9, 30490), (0, 30490), BARE_STOP_OFFER, &[], Some(1)),
+    Row(
+        400,
+        (1, 40000),
+        (9, 30509),
+        REQUEST_1,
+        &[NotOffered],
+        Some(1),
+    ),
+    Row(500, (1, 40000), (9, 30509), REQUEST_2, &[], Some(1)),
+];
+
 /// Books for one key each.
 const CROWDED: &[Row] = &[
     Row(100, (9, 30490), (0, 30490), OFFER, &[], Some(1)),
@@ -280,7 +310,7 @@ const CROWDED: &[Row] = &[
         (9, 30490),
         (0, 30490),
         SECOND_OFFER,
-        &[EndpointsFull, OfferFull],
+        &[EndpointsFull, OfferFull, ServersFull],
         Some(1),
     ),
     Row(300, (9, 30510), (1, 40000), EVENT_1, &[], None),
@@ -319,6 +349,9 @@ fn told_of(finding: &Finding) -> Told {
         Finding::Malformed(WireError::Truncated(63)) => Truncated,
         Finding::MalformedSd(SdError::EntriesLength(20)) => EntriesLength,
         Finding::EndpointsFull => EndpointsFull,
+        Finding::ServersFull => ServersFull,
+        Finding::Server(_, audit_sd::servers::Finding::Interface { expected: 1 }) => Version,
+        Finding::Server(_, audit_sd::servers::Finding::NotOffered) => NotOffered,
         Finding::Error(
             Header {
                 code: ReturnCode(3),
@@ -451,6 +484,7 @@ const TABLES: &[(&str, Option<&[u16]>, usize, &[Row])] = &[
     ("ERRORS", Some(&[30509]), 100, ERRORS),
     ("OPTIONS", None, 100, OPTIONS),
     ("UNASKED", None, 100, UNASKED),
+    ("SERVERS", None, 100, SERVERS),
     ("CROWDED", None, 1, CROWDED),
 ];
 

@@ -11,6 +11,6 @@ returns-in_err-tell_if_any-clause-err g c =
 pub returns-clause-err : goal.returns-clause-err
 returns-clause-err g c =
     on_err_by c.take_entry.result
-    (entry_begun c.args.now c.args.origin.now (view_read c.args.entry.now) c.told_of_options.result c.args.self.now c.args.findings.now.items c.tell_if_any.new.findings.items
-    c.take_entry.new.findings.items c.told_of_options.ensures c.in_ok-tell_if_any.ensures.ok)
+    (entry_begun c.args.now c.args.origin.now (view_read c.args.entry.now) c.told_of_options.result c.args.self.now c.note_offer.new.self c.args.findings.now.items c.tell_if_any.new.findings.items
+    c.take_entry.new.findings.items c.note_offer.ensures c.told_of_options.ensures c.in_ok-tell_if_any.ensures.ok)
     c.take_entry.ensures.err

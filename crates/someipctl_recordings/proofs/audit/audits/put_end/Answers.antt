@@ -4,11 +4,11 @@ use Rattle.someipctl_recordings.specs.audit.AskedAudits.{view_asked}
 use Rattle.someipctl_recordings.proofs.about_audit.RunLemmas.{end_puts, end_stops}
 use Rattle.someipctl_recordings.proofs.audit.audits.put_end.Goals as goal
 
-pub returns-in_err-put_summary-clause-stops : goal.returns-in_err-put_summary-clause-stops
-returns-in_err-put_summary-clause-stops g c = λ reports looked counts.
-    OnErr-any c.from_residual-in_err-put_summary.result
-    (end_stops (view_asked c.args.asked.now) c.args.gone.now c.args.auditing.now.audit c.put_last.new.tally reports looked _ _ _ _ _ c.in_ok-put_last.ensures.puts counts (λ all counted. c.in_err-put_summary.ensures.err all looked counted))
+pub returns-in_err-put_closing-clause-stops : goal.returns-in_err-put_closing-clause-stops
+returns-in_err-put_closing-clause-stops g c = λ reports looked counts.
+    OnErr-any c.from_residual-in_err-put_closing.result
+    (end_stops (view_asked c.args.asked.now) c.args.gone.now c.args.auditing.now.audit c.put_last.new.audit c.put_last.new.tally reports looked _ _ _ _ _ c.in_ok-put_last.ensures.puts counts (λ all counted. c.in_err-put_closing.ensures.stops all looked counted))
 
 pub returns-clause-puts : goal.returns-clause-puts
 returns-clause-puts g c = λ reports looked counts.
-    end_puts (view_asked c.args.asked.now) c.args.gone.now c.args.auditing.now.audit c.put_last.new.tally reports looked _ _ _ _ _ _ (record { outcome = c.of.result; left_out = c.args.left_out; is_full = false; fault = c.args.fault }) c.in_ok-put_last.ensures.puts counts (λ all counted. c.in_ok-put_summary.ensures.ok all looked counted) c.of.ensures refl
+    end_puts (view_asked c.args.asked.now) c.args.gone.now c.args.auditing.now.audit c.put_last.new.audit c.put_last.new.tally reports looked _ _ _ _ _ _ (record { outcome = c.of.result; left_out = c.args.left_out; is_full = false; fault = c.args.fault }) c.in_ok-put_last.ensures.puts counts (λ all counted. c.in_ok-put_closing.ensures.puts all looked counted) c.of.ensures refl

@@ -1,0 +1,3 @@
+pub mod ServerLemmas
+pub mod HistoryLemmas
+pub mod ReasonLemmas

@@ -1,0 +1,4 @@
+pub mod WayKeys
+pub mod WayOrder
+pub mod WayTables
+pub mod WayHistories
