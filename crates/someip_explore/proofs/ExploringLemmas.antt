@@ -1,5 +1,5 @@
 -- What a schedule may go on by, and what it comes to, by what a run of it gives.
-use Rattle.std.proofs.Common.{◌≡◌, ℕ, Bool, List, length, flat_map, if◌then◌else◌, Ok, Err, sym, ap, ◌∙◌}
+use Rattle.std.proofs.Common.{◌≡◌, ℕ, Bool, List, length, flat_map, if◌then◌else◌, Result, Ok, Err, IfOk, sym, ap, subst, ◌∙◌}
 use Rattle.std.specs.Global as global
 use Rattle.someip_world_schedule.specs.declared.step.Step.{Step}
 use Rattle.someip_world_setup.specs.declared.setup_node.SetupNode.{SetupNode}
@@ -7,44 +7,66 @@ use Rattle.someip_world_rules.specs.Runs.{IsRun}
 use Rattle.someip_world_rules.specs.declared.error.RunError.{RunError}
 use Rattle.someip_world_rules.specs.declared.error.RunError.TheVariants.{BadStep, OutOfMemory}
 use Rattle.someip_world_rules.specs.declared.line.Line.{Line}
-use Rattle.someip_explore.specs.declared.limits.Limits.{Limits}
+use Rattle.someip_world_rules.specs.declared.trace.Trace.{Trace}
+use Rattle.someip_world_rules.specs.exchanges.CleanReuse.{IsVerdictOn}
 use Rattle.someip_explore.specs.declared.moves.Move.{Move}
 use Rattle.someip_explore.specs.declared.search.Explored.{Explored}
 use Rattle.someip_explore.specs.declared.search.Explored.TheVariants as explored
 use Rattle.someip_explore.specs.declared.search.Judgement.TheVariants.{Bad, Missed, Reached}
 use Rattle.someip_explore.specs.Exploring.{ExploresTo, IsTraced, exploration_of, judged_by, judgement_of}
-use Rattle.someip_explore.specs.Goals.{Goal, reaches}
+use Rattle.someip_explore.specs.Goals.{Goal, run_reaches}
+use Rattle.someip_explore.specs.LimitValues.{LimitValues}
 use Rattle.someip_explore.specs.Moves.{next_by, next_steps, stands_for}
 use Rattle.someip_explore.specs.Searching.{Explores}
-use Rattle.someip_explore.specs.Traces.{trace_of}
+use Rattle.someip_explore.specs.Traces.{trace_of, verdict_of}
 use Rattle.someip_explore.proofs.TraceLemmas.{comes_to_trace}
+use Rattle.someip_explore.proofs.OneVerdict.{one_verdict}
 
-pub traced_error : (nodes : List SetupNode) (ss : List Step) (error : RunError) → IsRun nodes ss (Err error) → IsTraced nodes ss (Err error)
-traced_error nodes ss (BadStep index fault) run = sym (comes_to_trace nodes ss (Err (BadStep index fault)) run)
-traced_error nodes ss OutOfMemory run = record {}
+-- what a run gives is the trace, and the verdict on it
+pub traced_so : (nodes : List SetupNode) (ss : List Step) (ran : Result Trace RunError)
+    → ((lines : List Line) → IsVerdictOn nodes ss lines (verdict_of nodes ss lines)) → IsRun nodes ss ran → IfOk ran (λ trace. IsVerdictOn nodes ss trace.lines.items trace.verdict)
+    → IsTraced nodes ss ran
+traced_so nodes ss (Ok trace) told run on =
+    let is = sym (comes_to_trace nodes ss (Ok trace.lines.items) run) in
+    (is, one_verdict nodes ss trace.lines.items is trace.verdict (verdict_of nodes ss trace.lines.items) on (told trace.lines.items))
+traced_so nodes ss (Err (BadStep index fault)) told run on = sym (comes_to_trace nodes ss (Err (BadStep index fault)) run)
+traced_so nodes ss (Err OutOfMemory) told run on = record {}
 
 -- ---- how a schedule may go on
 
-pub next_so : (nodes : List SetupNode) (moves : List Move) (ss : List Step) (lines : List Line) → trace_of nodes ss ≡ Ok lines → flat_map (stands_for lines) moves ≡ next_steps nodes moves ss
-next_so nodes moves ss lines is = sym (ap (next_by moves) is)
+pub next_so : (nodes : List SetupNode) (moves : List Move) (ss : List Step) (trace : Trace) → IsTraced nodes ss (Ok trace)
+    → flat_map (stands_for nodes ss trace.lines.items) moves ≡ next_steps nodes moves ss
+next_so nodes moves ss trace traced = sym (ap (next_by nodes moves ss) traced.0)
 
-pub none_next : (nodes : List SetupNode) (moves : List Move) (ss : List Step) (error : RunError) → trace_of nodes ss ≡ Err error → next_by moves (Err error) ≡ next_steps nodes moves ss
-none_next nodes moves ss error is = sym (ap (next_by moves) is)
+pub none_next : (nodes : List SetupNode) (moves : List Move) (ss : List Step) (error : RunError) → trace_of nodes ss ≡ Err error → next_by nodes moves ss (Err error) ≡ next_steps nodes moves ss
+none_next nodes moves ss error is = sym (ap (next_by nodes moves ss) is)
 
 -- ---- what it comes to
 
-pub judged_so : (nodes : List SetupNode) (goal : Goal) (done : ℕ) (ss : List Step) (lines : List Line) (does : Bool) → trace_of nodes ss ≡ Ok lines → does ≡ reaches nodes goal done lines
-    → (if does then Reached else Missed) ≡ judgement_of nodes goal done ss
-judged_so nodes goal done ss lines does is so = ap (λ b. if b then Reached else Missed) so ∙ sym (ap (judged_by nodes goal done) is)
+pub judged_so : (nodes : List SetupNode) (goal : Goal) (done : ℕ) (ss : List Step) (trace : Trace) (does : Bool) → IsTraced nodes ss (Ok trace)
+    → does ≡ run_reaches nodes goal done trace.lines.items trace.verdict → (if does then Reached else Missed) ≡ judgement_of nodes goal done ss
+judged_so nodes goal done ss trace does traced so =
+    ap (λ b. if b then Reached else Missed) so ∙ ap (λ verdict. if run_reaches nodes goal done trace.lines.items verdict then Reached else Missed) traced.1
+    ∙ sym (ap (judged_by nodes goal done ss) traced.0)
 
 pub judged_bad : (nodes : List SetupNode) (goal : Goal) (done : ℕ) (ss : List Step) (error : RunError) → trace_of nodes ss ≡ Err error → Bad ≡ judgement_of nodes goal done ss
-judged_bad nodes goal done ss error is = sym (ap (judged_by nodes goal done) is)
+judged_bad nodes goal done ss error is = sym (ap (judged_by nodes goal done ss) is)
 
 -- ---- what a search comes to
 
-pub explores_so : (nodes : List SetupNode) (moves : List Move) (goal : Goal) (limits : Limits) (beginning : List Step) (steps : global.Vec Step) (found : Explored)
+pub explores_so : (nodes : List SetupNode) (moves : List Move) (goal : Goal) (limits : LimitValues) (beginning : List Step) (steps : global.Vec Step) (found : Explored)
     → Explores (next_steps nodes moves) (judgement_of nodes goal (length beginning)) limits.steps limits.schedules beginning steps.items found
     → ExploresTo nodes moves goal limits beginning (exploration_of steps found)
 explores_so nodes moves goal limits beginning steps (explored.Found count) explores = explores
 explores_so nodes moves goal limits beginning steps (explored.None count) explores = explores
 explores_so nodes moves goal limits beginning steps (explored.Stopped covered) explores = explores
+
+-- the same by numbers that are those of the beginning and of the limits
+pub explores_by : (nodes : List SetupNode) (moves : List Move) (goal : Goal) (limits : LimitValues) (beginning : List Step) (steps : global.Vec Step) (found : Explored)
+    → (done longest most : ℕ) → done ≡ length beginning → longest ≡ limits.steps → most ≡ limits.schedules
+    → Explores (next_steps nodes moves) (judgement_of nodes goal done) longest most beginning steps.items found → ExploresTo nodes moves goal limits beginning (exploration_of steps found)
+explores_by nodes moves goal limits beginning steps found done longest most is far many explores =
+    explores_so nodes moves goal limits beginning steps found
+    (subst (λ n. Explores (next_steps nodes moves) (judgement_of nodes goal n) limits.steps limits.schedules beginning steps.items found) is
+    (subst (λ n. Explores (next_steps nodes moves) (judgement_of nodes goal done) n limits.schedules beginning steps.items found) far
+    (subst (λ n. Explores (next_steps nodes moves) (judgement_of nodes goal done) longest n beginning steps.items found) many explores)))

@@ -5,5 +5,8 @@ pub mod TraceLemmas
 pub mod SearchLemmas
 pub mod SearchMeaning
 pub mod GoalLemmas
+pub mod MoveLemmas
+pub mod OneVerdict
 pub mod ExploringLemmas
 pub mod TriedLemmas
+pub mod MisfitLemmas

@@ -21,7 +21,7 @@ among_flat f (y ∷ ys) s x (suc k) lt is inside = Contains-append_right (f y) (
 one_more : {X : Type 0} (y : X) (ys : List X) (s : X) → Contains ys s → Contains (y ∷ ys) s
 one_more y ys s inside = (suc inside.0, let lt = inside.1 in omega (arith, lt), inside.2)
 
-from_flat : {X Y : Type 0} (f : X → List Y) (xs : List X) (x : Y) → Contains (flat_map f xs) x → (s : X) × Contains xs s × Contains (f s) x
+pub from_flat : {X Y : Type 0} (f : X → List Y) (xs : List X) (x : Y) → Contains (flat_map f xs) x → (s : X) × Contains xs s × Contains (f s) x
 from_flat f [] x inside = let lt = inside.1 in absurd (omega (arith, lt))
 from_flat f (y ∷ ys) x inside = cases (from_flat f ys x) (Contains-append_cases (f y) (flat_map f ys) x inside)
   where

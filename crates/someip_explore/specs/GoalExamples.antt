@@ -21,3 +21,7 @@ told_as words = [] ∷ words
 -- an Ack is dropped, where each of some words stands before it, and none of others
 abbrev pub ack_dropped : List (List (List ℕ)) → List (List (List ℕ)) → Goal
 ack_dropped once never = record { words = told_as (codes "dropped" ∷ codes "NotPending" ∷ []); once = once; never = never }
+
+-- a step breaks clean reuse, where each of some words stands in a line, and none of others
+abbrev pub broken_reuse : List (List (List ℕ)) → List (List (List ℕ)) → Goal
+broken_reuse once never = record { words = codes "reuse" ∷ codes "broken" ∷ []; once = once; never = never }

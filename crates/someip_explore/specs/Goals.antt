@@ -8,6 +8,8 @@ use Rattle.someip_world_rules.specs.Datagrams.{datagram_in, datagrams_in}
 use Rattle.someip_world_rules.specs.declared.line.Line.{Line}
 use Rattle.someip_world_rules.specs.declared.line.Told.{Told}
 use Rattle.someip_world_rules.specs.declared.line.Told.TheVariants.{Gave, Refused}
+use Rattle.someip_world_rules.specs.declared.reuse.Reuse.{Reuse}
+use Rattle.someip_world_rules.specs.declared.reuse.Reuse.TheVariants.{Broken, Clean}
 use Rattle.someip_world_setup.specs.declared.setup_node.SetupNode.{SetupNode}
 
 -- ---- the words of a line
@@ -24,6 +26,11 @@ node_name nodes place = option_map_or (λ node. string_bytes node.name) (slice_g
 -- a line without the index of its step: the name of its node, and what it tells
 abbrev pub line_words : List SetupNode → ℕ → Line → List (List ℕ)
 line_words nodes number line = node_name nodes line.node ∷ told_words number line.told
+
+-- the line of the verdict, which stands behind all others
+abbrev pub verdict_words : Reuse → List (List ℕ)
+verdict_words Clean = codes "reuse" ∷ codes "clean" ∷ []
+verdict_words (Broken at) = codes "reuse" ∷ codes "broken" ∷ codes "at" ∷ decimal at ∷ []
 
 -- a line has some words where its first words are these
 abbrev pub begins_with : List (List ℕ) → List (List ℕ) → Bool
@@ -73,3 +80,11 @@ reaches_behind nodes goal done before (line ∷ lines) =
 -- a trace reaches a goal after so many steps
 abbrev pub reaches : List SetupNode → Goal → ℕ → List Line → Bool
 reaches nodes goal done lines = reaches_behind nodes goal done [] lines
+
+-- the line of the verdict reaches a goal, behind all lines of the trace
+abbrev pub verdict_reaches : List SetupNode → Goal → List Line → Reuse → Bool
+verdict_reaches nodes goal lines verdict = begins_with goal.words (verdict_words verdict) && may_reach nodes goal lines
+
+-- a run reaches a goal after so many steps: a line of its trace does, or that of the verdict on it
+abbrev pub run_reaches : List SetupNode → Goal → ℕ → List Line → Reuse → Bool
+run_reaches nodes goal done lines verdict = reaches nodes goal done lines || verdict_reaches nodes goal lines verdict

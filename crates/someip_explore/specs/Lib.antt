@@ -5,4 +5,8 @@ pub mod Goals
 pub mod GoalViews
 pub mod GoalExamples
 pub mod Moves
+pub mod MoveExamples
+pub mod LimitValues
 pub mod Exploring
+pub mod MoveWords
+pub mod Misfits

@@ -1,12 +1,13 @@
 //! All schedules of some moves, up to a length.
-ghost use Rattle.std.specs.Prelude.{◌≡◌, ◌<◌, IfOk};
+ghost use Rattle.std.specs.Prelude.{◌≡◌, IfOk};
 ghost use Rattle.someip_explore.specs.Exploring.{ExploresTo, exploration_of, judgement_of};
 ghost use Rattle.someip_explore.specs.GoalViews.{goal_of};
 ghost use Rattle.someip_explore.specs.Moves.{next_steps};
 
-use crate::goal::{Goal, reaches};
+use crate::goal::Goal;
 use crate::limits::Limits;
 use crate::moves::{Move, steps_after};
+use crate::reaching::run_reaches;
 use crate::search::{Explored, Game, Judgement, search_up_to};
 use crate::traced::run_traced;
 use someip_tp::Reassembly;
@@ -55,7 +56,10 @@ impl<'e, R: Reassembly> Game<Step> for Explorer<'e, R> {
     #[tactic(auto, using(crate::proofs::ExploringLemmas::next_so, crate::proofs::ExploringLemmas::none_next))]
     fn next(&self, steps: &[Step]) -> Result<Vec<Step>, AllocError> {
         match run_traced::<R>(self.alloc, self.setup, steps) {
-            Ok(lines) => steps_after(self.alloc, lines.as_slice(), self.moves),
+            Ok(trace) => {
+                let nodes = self.setup.nodes();
+                steps_after(self.alloc, nodes, steps, trace.lines.as_slice(), self.moves)
+            }
             Err(RunError::BadStep(..)) => Ok(Vec::new(self.alloc)),
             Err(RunError::OutOfMemory) => Err(AllocError),
         }
@@ -63,13 +67,13 @@ impl<'e, R: Reassembly> Game<Step> for Explorer<'e, R> {
 
     #[tactic(auto, using(crate::proofs::ExploringLemmas::judged_so, crate::proofs::ExploringLemmas::judged_bad))]
     fn judge(&self, steps: &[Step]) -> Result<Judgement, AllocError> {
-        let lines = match run_traced::<R>(self.alloc, self.setup, steps) {
-            Ok(lines) => lines,
+        let trace = match run_traced::<R>(self.alloc, self.setup, steps) {
+            Ok(trace) => trace,
             Err(RunError::BadStep(..)) => return Ok(Judgement::Bad),
             Err(RunError::OutOfMemory) => return Err(AllocError),
         };
         let nodes = self.setup.nodes();
-        if reaches(self.alloc, nodes, self.goal, self.done, lines.as_slice())? {
+        if run_reaches(self.alloc, nodes, self.goal, self.done, &trace)? {
             Ok(Judgement::Reached)
         } else {
             Ok(Judgement::Missed)
@@ -93,7 +97,8 @@ fn exploration_of(steps: Vec<Step>, explored: Explored) -> Exploration
 
 /// Tries all schedules that begin with some steps and go on by at most so many moves, over the nodes of a
 /// setup: shorter ones first, and those of one length in the order of the moves, the first move first.
-/// Each is run anew. One that has a bad step is not judged, and none goes on behind a bad step.
+/// Each is run anew. One that has a bad step is not judged, and none goes on behind a bad step. What comes of it
+/// is the same for each store of segments `R`. `SegmentList` reserves no memory, so its nodes start fast.
 ///
 /// It finds the first that reaches the goal, or none does; or more are good than the limits allow. An error
 /// says that memory ran out.
@@ -105,8 +110,6 @@ pub fn explore<R: Reassembly>(
     goal: &Goal,
     limits: Limits,
 ) -> Result<Exploration, AllocError>
-    requires steps { limits.steps < usize.MAX }
-    requires schedules { 0 < limits.schedules }
     ensures { IfOk result (ExploresTo setup.now.nodes moves.now (goal_of goal.now) limits beginning.items) }
 {
     let explorer = Explorer::<R> {
@@ -118,6 +121,6 @@ pub fn explore<R: Reassembly>(
         store: PhantomData,
     };
     let mut steps = beginning;
-    let explored = search_up_to(&explorer, &mut steps, limits.steps, limits.schedules)?;
+    let explored = search_up_to(&explorer, &mut steps, limits.steps(), limits.schedules())?;
     Ok(exploration_of(steps, explored))
 }

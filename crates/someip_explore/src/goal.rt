@@ -10,7 +10,9 @@ use someip_world::{Line, SetupNode};
 use std::alloc::{AllocError, Global};
 
 /// What a schedule is to bring about: a line of its trace has some words. They are the name of the node, and
-/// then what it tells, as a trace tells it. A line has words where its first words are these.
+/// then what it tells, as a trace tells it. A line has words where its first words are these. Behind all
+/// lines stands that of the verdict on the whole schedule: `reuse clean`, or `reuse broken at` and the index of
+/// the first step that broke it.
 #[derive(Drop)]
 pub struct Goal {
     /// The words that the line has.
@@ -77,7 +79,7 @@ fn have_one(
 }
 
 /// Whether the lines before a line are as a goal asks.
-fn may_reach(
+pub(crate) fn may_reach(
     alloc: Global,
     nodes: &[SetupNode],
     goal: &Goal,

@@ -2,24 +2,29 @@
 //!
 //! - [`explore`]: tries the schedules that begin with some steps and go on by moves, up to [`Limits`], and
 //!   tells what they came to as [`Exploration`];
-//! - [`Move`]: by which steps a schedule may go on; [`PlainMove`] is one of a single step;
+//! - [`Move`]: by which steps a schedule may go on, as a line spells it; [`PlainMove`] is one of a single step;
 //! - [`Goal`]: what a schedule is to bring about;
 //! - [`Judgement`]: what a schedule comes to; [`Explored`]: what a search among schedules comes to;
-//! - [`laws`]: that one schedule has one trace; which schedules are tried; examples.
+//! - [`laws`]: that one schedule has one trace and one verdict; which schedules are tried; examples.
 //!
 //! `search` knows nothing of nodes: it tries lists of steps, by a trait that says how one may go on and what
 //! it comes to. Which lists these are, and in which order, is `specs/Search.antt`. A schedule is judged by
-//! its trace (`trace_of` of `specs/Traces.antt`), which is a function of setup and steps. So 'reaches' is said
-//! of no code.
+//! its trace and the verdict on it (`trace_of` and `verdict_of` of `specs/Traces.antt`), which are functions of
+//! setup and steps. So 'reaches' is said of no code.
 #![tactic(auto)]
 
+mod answers;
+mod deliveries;
 mod exploring;
 mod goal;
 pub mod laws;
 mod limits;
+mod misfits;
+mod move_reading;
 mod moves;
 mod numbers;
 mod plain_move;
+mod reaching;
 mod search;
 mod traced;
 mod words;

@@ -1,20 +1,19 @@
-//! A run whose trace is a function of setup and steps.
+//! A run whose trace and verdict are functions of setup and steps.
 ghost use Rattle.someip_explore.specs.Exploring.{IsTraced};
 
+use crate::laws::verdicts_are_told;
 use someip_tp::Reassembly;
-use someip_world::{Line, RunError, Setup, Step, run};
+use someip_world::{RunError, Setup, Step, Trace, run};
 use std::alloc::Global;
 
-/// Runs a schedule: its trace.
+/// Runs a schedule: its trace, and the verdict on it.
 pub(crate) fn run_traced<R: Reassembly>(
     alloc: Global,
     setup: &Setup,
     steps: &[Step],
-) -> Result<Vec<Line>, RunError>
+) -> Result<Trace, RunError>
     ensures { IsTraced setup.now.nodes steps.now result }
 {
-    match run::<R>(alloc, setup, steps) {
-        Ok(trace) => Ok(trace.lines),
-        Err(error) => Err(error),
-    }
+    verdicts_are_told(setup, steps);
+    run::<R>(alloc, setup, steps)
 }

@@ -20,7 +20,11 @@ fn is_word(alloc: Global, word: &Word, text: &str) -> Result<bool, AllocError>
 }
 
 /// Whether the first of some words are these.
-fn begins_with(alloc: Global, front: &[String], words: &[Word]) -> Result<bool, AllocError>
+pub(crate) fn begins_with(
+    alloc: Global,
+    front: &[String],
+    words: &[Word],
+) -> Result<bool, AllocError>
     ensures { IfOk result (λ begins. begins ≡ begins_with (map string_bytes front.now)
         (map word_text words.now)) }
 {
@@ -51,7 +55,7 @@ fn tells(alloc: Global, front: &[String], number: usize, told: &Told) -> Result<
 }
 
 /// The name of the node at a place.
-fn node_name(nodes: &[SetupNode], place: usize) -> &str
+pub(crate) fn node_name(nodes: &[SetupNode], place: usize) -> &str
     ensures { result.now ≡ node_name nodes.now place }
 {
     match nodes.get(place) {
