@@ -36,6 +36,9 @@ HELP = (
      "services\n"),
     ("someipctl|help|show", "      --types <FILE>        Prints the values of the payloads whose shapes this file "
      "tells\n"),
+    ("someipctl|help|explore", "Usage: someipctl explore [OPTIONS] <SETUP> <MOVES> <GOAL>\n"),
+    ("someipctl|help|explore", "      --never <WORDS>     Only where no line with these words came before; may be "
+     "given several times\n"),
 )
 USAGE = (
     ("someipctl|vectors", "Usage: someipctl vectors <FILE>\n"),
@@ -47,6 +50,11 @@ USAGE = (
     ("someipctl|recording", "Usage: someipctl recording <FILE>...\n"),
     ("someipctl|run|x", "Usage: someipctl run <SETUP> <SCHEDULE>\n"),
     ("someipctl|chart|x", "Usage: someipctl chart <SETUP> <SCHEDULE>\n"),
+    ("someipctl|explore|x|y", "Usage: someipctl explore <SETUP> <MOVES> <GOAL>\n"),
+    ("someipctl|explore|--steps|17|x|y|z", "error: invalid value '17' for '--steps <N>': steps are a number from 0 to 16"
+     "\n\nUsage: someipctl explore [OPTIONS] <SETUP> <MOVES> <GOAL>\n"),
+    ("someipctl|explore|--most|0|x|y|z", "error: invalid value '0' for '--most <M>': schedules are a number from 1 to "
+     "1000000000000\n\nUsage: someipctl explore [OPTIONS] <SETUP> <MOVES> <GOAL>\n"),
     ("someipctl|audit", "Usage: someipctl audit <FILE>...\n"),
     ("someipctl|payload|u8", "Usage: someipctl payload <SHAPE> <HEX>\n"),
     ("/bin/other", "Usage: someipctl <COMMAND>\n"),

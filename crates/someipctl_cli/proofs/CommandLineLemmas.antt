@@ -84,7 +84,12 @@ with_values : {A : Type 0} (value other : Option Text) (asks : Text → Text →
 with_values None other asks some more = absurd (true≢false (sym some))
 with_values (Some v) other asks some more = with_value other (asks v) more
 
--- a subcommand asks for something that needs the value of one argument, or those of two
+with_three : {A : Type 0} (value other third : Option Text) (asks : Text → Text → Text → A) → is_some value ≡ true → is_some other ≡ true → is_some third ≡ true
+    → IsSome (option_and_then (λ v. option_and_then (λ w. option_map (asks v w) third) other) value)
+with_three None other third asks some more last = absurd (true≢false (sym some))
+with_three (Some v) other third asks some more last = with_values other third (asks v) more last
+
+-- a subcommand asks for something that needs the value of one argument, or those of two or three
 one_asks : (s : Shape) (id : Text) (asks : (Text → Option Text) → (Text → List Text) → Text → Request)
     → ((value : Text → Option Text) (values : Text → List Text) → asked_by_subcommand s.name value values ≡ option_map (asks value values) (value id))
     → list_all has_value s.rules ≡ true → is_wanted id s ≡ true → Asks s
@@ -100,6 +105,17 @@ two_asks s id other asks is valued first second name met named words none =
     let value : Text → Option Text = λ id. first_of id (rows_at s words).1 in
     let values : Text → List Text = λ id. unwrap_or (all_of id (rows_at s words).1) [] in
     rw (is value values) (with_values (value id) (value other) (asks value) (wanted_value s id valued first words none) (wanted_value s other valued second words none))
+
+three_asks : (s : Shape) (id other third : Text) (asks : (Text → Option Text) → (Text → List Text) → Text → Text → Text → Request)
+    → ((value : Text → Option Text) (values : Text → List Text) → asked_by_subcommand s.name value values
+    ≡ option_and_then (λ v. option_and_then (λ w. option_map (asks value values v w) (value third)) (value other)) (value id))
+    → list_all has_value s.rules ≡ true → is_wanted id s ≡ true → is_wanted other s ≡ true → is_wanted third s ≡ true → Asks s
+three_asks s id other third asks is valued wanted too last name met named words none =
+    let value : Text → Option Text = λ id. first_of id (rows_at s words).1 in
+    let values : Text → List Text = λ id. unwrap_or (all_of id (rows_at s words).1) [] in
+    rw (is value values)
+    (with_three (value id) (value other) (value third) (asks value values) (wanted_value s id valued wanted words none)
+    (wanted_value s other valued too words none) (wanted_value s third valued last words none))
 
 -- no other name is that of `help`
 help_asks : (s : Shape) → label_of s ≡ (codes "help", []) → Asks s
@@ -127,7 +143,10 @@ cli_asks = (
             one_asks _ (codes "file") _ (λ value values. refl) refl refl,
             (
               two_asks _ (codes "setup") (codes "schedule") _ (λ value values. refl) refl refl refl,
-              (one_asks _ (codes "file") _ (λ value values. refl) refl refl, (help_asks _ refl, tt)),
+              (
+                one_asks _ (codes "file") _ (λ value values. refl) refl refl,
+                (three_asks _ (codes "setup") (codes "moves") (codes "goal") _ (λ value values. refl) refl refl refl refl, (help_asks _ refl, tt)),
+              ),
             ),
           ),
         ),

@@ -13,12 +13,13 @@ use Rattle.clap.specs.declared.error.ErrorKind.TheVariants as kind
 use Rattle.clap.specs.declared.builder.ArgAction.TheVariants.{Append, SetTrue}
 use Rattle.someipctl_recordings.specs.declared.audit.SettingTexts.{SettingTexts}
 use Rattle.someipctl_cli.specs.declared.command.Command.{Command}
-use Rattle.someipctl_cli.specs.declared.command.Command.TheVariants.{Show, Payload, Encode, Vectors, Run, Recording, Chart, Audit}
+use Rattle.someipctl_cli.specs.declared.command.Command.TheVariants.{Show, Payload, Encode, Vectors, Run, Recording, Chart, Audit, Explore}
 use Rattle.someipctl_cli.specs.declared.command.AuditOptions.{AuditOptions}
 use Rattle.someipctl_cli.specs.declared.command.ChoiceOptions.{ChoiceOptions}
 use Rattle.someipctl_cli.specs.declared.command.PacketOptions.{PacketOptions}
 use Rattle.someipctl_cli.specs.declared.command.SettingOptions.{SettingOptions}
 use Rattle.someipctl_cli.specs.declared.command.RecordingOptions.{RecordingOptions}
+use Rattle.someipctl_cli.specs.declared.explore_words.ExploreOptions.{ExploreOptions}
 use Rattle.someipctl_cli.specs.declared.command.LineError.{LineError}
 use Rattle.someipctl_cli.specs.declared.command.LineError.TheVariants.{Usage, Help, OutOfMemory}
 
@@ -38,6 +39,10 @@ valued name = record (new_rule name) { long = Some name; value_names = 1 }
 
 abbrev pub flag : Text → Rule
 flag name = record (new_rule name) { long = Some name; action = Some SetTrue }
+
+-- an option with a value that may be given several times
+abbrev pub valued_many : Text → Rule
+valued_many name = record (valued name) { action = Some Append }
 
 -- the command with the options that name services and a types file
 abbrev pub with_filters : App → App
@@ -122,6 +127,18 @@ audit_options = with_packets (with_choice (with_json (with_findings (with_settin
 abbrev pub audit_usage : Shape
 audit_usage = (with_rule audit_options (required_many (codes "file"))).top
 
+-- the command with the options that say what stands before the goal
+abbrev pub with_conditions : App → App
+with_conditions app = with_rule (with_rule app (valued_many (codes "once"))) (valued_many (codes "never"))
+
+-- `explore [--after SCHEDULE] [--steps N] [--most M] [--once WORDS].. [--never WORDS].. SETUP MOVES GOAL`
+abbrev pub explore_options : App
+explore_options =
+    with_conditions (with_rule (with_rule (with_rule (new_app (codes "explore")) (valued (codes "after"))) (valued (codes "steps"))) (valued (codes "most")))
+
+abbrev pub explore_usage : Shape
+explore_usage = (with_rule (with_rule (with_rule explore_options (required (codes "setup"))) (required (codes "moves"))) (required (codes "goal"))).top
+
 -- the program alone, which asks for a subcommand
 abbrev pub program : App
 program = on_top (λ top. record top { subcommand_required = true }) (new_app (codes "someipctl"))
@@ -136,7 +153,7 @@ with_file_commands = with_subcommand (with_subcommand with_byte_commands vectors
 
 -- the command line
 abbrev pub cli : App
-cli = with_subcommand (with_subcommand (with_subcommand with_file_commands recording_usage) chart_usage) audit_usage
+cli = with_subcommand (with_subcommand (with_subcommand (with_subcommand with_file_commands recording_usage) chart_usage) audit_usage) explore_usage
 
 -- ---- what words ask for
 
@@ -186,6 +203,14 @@ pub record AuditRequest : Type 0 where
   pub service : Option Text
   pub settings : SettingRequest
 
+-- the options of `explore`
+pub record ExploreRequest : Type 0 where
+  pub after : Option Text
+  pub steps : Option Text
+  pub most : Option Text
+  pub once : List Text
+  pub never : List Text
+
 -- a command, without where its words lie in memory
 pub data Request : Type 0 where
   show_request : Text → Option Text → Option Text → Bool → Request
@@ -196,6 +221,7 @@ pub data Request : Type 0 where
   recording_request : List Text → RecordingRequest → Request
   chart_request : Text → Text → Request
   audit_request : List Text → AuditRequest → Request
+  explore_request : (setup moves goal : Text) → ExploreRequest → Request
 
 abbrev pub text_at : Option (Bor Text) → Option Text
 text_at text = option_map (λ t. t.now) text
@@ -244,6 +270,9 @@ asked_by_audit_options o = record {
   settings = asked_by_settings o.settings;
 }
 
+abbrev pub asked_by_explore_options : ExploreOptions → ExploreRequest
+asked_by_explore_options o = record { after = text_at o.after; steps = text_at o.steps; most = text_at o.most; once = texts_at o.once.items; never = texts_at o.never.items }
+
 -- what a command asks for
 abbrev pub asked_by_command : Command → Request
 asked_by_command (Show capture service types json) = show_request capture.now (text_at service) (text_at types) json
@@ -254,6 +283,7 @@ asked_by_command (Run setup schedule expect begins lines json) = run_request set
 asked_by_command (Recording files options) = recording_request (texts_at files.items) (asked_by_options options)
 asked_by_command (Chart setup schedule) = chart_request setup.now schedule.now
 asked_by_command (Audit files options) = audit_request (texts_at files.items) (asked_by_audit_options options)
+asked_by_command (Explore setup moves goal options) = explore_request setup.now moves.now goal.now (asked_by_explore_options options)
 
 -- an option without a value is on where it was given: then its value is that of true
 abbrev pub is_on : Option Text → Bool
@@ -370,6 +400,18 @@ audit_options_by value =
 abbrev pub asked_by_audit : (Text → Option Text) → (Text → List Text) → Option Request
 asked_by_audit value values = option_map (λ file. audit_request (values (codes "file")) (audit_options_by value)) (value (codes "file"))
 
+-- the options of `explore`, by the first value of each, and all
+abbrev pub explore_options_by : (Text → Option Text) → (Text → List Text) → ExploreRequest
+explore_options_by value values =
+    record { after = value (codes "after"); steps = value (codes "steps"); most = value (codes "most"); once = values (codes "once"); never = values (codes "never") }
+
+-- what `explore` asks for
+abbrev pub asked_by_explore : (Text → Option Text) → (Text → List Text) → Option Request
+asked_by_explore value values =
+    option_and_then
+    (λ setup. option_and_then (λ moves. option_map (λ goal. explore_request setup moves goal (explore_options_by value values)) (value (codes "goal"))) (value (codes "moves")))
+    (value (codes "setup"))
+
 -- what a subcommand asks for, by its name and the values of its arguments and options: the first of each, and all
 abbrev pub asked_by_subcommand : Text → (Text → Option Text) → (Text → List Text) → Option Request
 asked_by_subcommand name value values =
@@ -380,7 +422,8 @@ asked_by_subcommand name value values =
     else (if bytes_eq name (codes "run") then asked_by_run value
     else (if bytes_eq name (codes "recording") then asked_by_recording value values
     else (if bytes_eq name (codes "chart") then asked_by_chart value
-    else (if bytes_eq name (codes "audit") then asked_by_audit value values else None)))))))
+    else (if bytes_eq name (codes "audit") then asked_by_audit value values
+    else (if bytes_eq name (codes "explore") then asked_by_explore value values else None))))))))
 
 -- what the subcommand that was entered asks for, where one was
 abbrev pub asked_by_entered : Option (Text × List Row) → Option Request

@@ -11,6 +11,7 @@ ghost use Rattle.someipctl_cli.specs.CommandLine.{asked_by_choice, asked_by_pack
 ghost use Rattle.someipctl_cli.specs.CommandLine.{is_on, packet_options_by, recording_options_by, requested};
 ghost use Rattle.someipctl_cli.specs.CommandLine.{setting_options_by, texts_at, texts_of, values_of};
 
+use crate::explore_words::{ExploreOptions, explore_matched};
 use crate::grammar::definition;
 use clap::ArgMatches;
 use clap::error::ErrorKind;
@@ -89,6 +90,17 @@ pub enum Command<'w> {
         files: Vec<&'w str>,
         /// What the audit goes by.
         options: AuditOptions<'w>,
+    },
+    /// Try schedules over the nodes of a setup, and print the first that reaches a goal.
+    Explore {
+        /// The setup's path, as it was given.
+        setup: &'w str,
+        /// The path of the moves, as it was given.
+        moves: &'w str,
+        /// The words that a line of the trace is to have.
+        goal: &'w str,
+        /// What is tried, and what is asked of the lines before.
+        options: ExploreOptions<'w>,
     },
 }
 
@@ -283,6 +295,7 @@ fn matched_under<'w>(
         "recording" => recording_matched(alloc, rest),
         "chart" => Ok(chart_matched(rest)),
         "audit" => audit_matched(alloc, rest),
+        "explore" => explore_matched(alloc, rest),
         _ => Ok(None),
     }
 }

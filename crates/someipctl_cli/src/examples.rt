@@ -108,6 +108,27 @@ where N is the line of SCHEDULE by which the second LINE came, and - is what the
 With --begins, the text of TRACE may end before the trace does, also within a line, as the log of a
 node does that still runs.";
 
+/// Of `explore`.
+pub(crate) const EXPLORE_EXAMPLE: &str = "\
+SETUP is that of `run`. MOVES has one move a line: a step of a schedule, or `deliver * NODE`, which
+stands for the delivery of each datagram that was sent so far. A schedule of N moves is any N of
+them, one after the other, each as often as you like; one with a step that can't happen is none.
+All schedules of up to N moves are tried, shorter ones first, and those of one length in the order
+of MOVES.
+
+GOAL, and the WORDS of --once and --never, are the first words of a line of the trace, without its
+number: a node, and what it tells. A schedule reaches GOAL where a line has these words, and before
+it one has each of --once, and none has one of --never. So with the lines
+  tick a 10
+  deliver * b
+as MOVES the call
+  someipctl explore setup.toml moves.txt 'b known'
+prints the shortest schedule after which node b knows an instance of node a, ready for `run`; the
+exit status is 1. Where no schedule reaches GOAL it prints
+  none within 6 steps, M schedules
+with the number of schedules that can happen, and the exit status is 0. Where more than --most can
+happen it prints `none of up to L steps, stopped after M schedules`, and the exit status is 1.";
+
 /// Of `recording`.
 pub(crate) const RECORDING_EXAMPLE: &str = "\
 A FILE is a recording of classic pcap or pcapng, as tcpdump and Wireshark write it; several are one

@@ -8,6 +8,7 @@ ghost use Rattle.someipctl_cli.specs.Failures.{failure_of, failure_of_list, fail
 ghost use Rattle.someipctl_cli.specs.Failures.{status_of_failure};
 
 use recording::RecordingError;
+use someipctl_explore::{GoalRefusal, MovesRefusal};
 use someipctl_io::{Fault, ReadFault};
 use someipctl_recordings::LimitsError;
 use someipctl_recordings::audit::SettingError;
@@ -44,12 +45,18 @@ pub enum Refusal {
     /// A recording has a fault. What comes before it was shown.
     #[error("recording: {0}")]
     Recording(RecordingError),
+    /// That of a file of moves.
+    #[error(transparent)]
+    Moves(MovesRefusal),
+    /// That of the words of a goal.
+    #[error(transparent)]
+    Goal(GoalRefusal),
     /// That of a types file.
     #[error(transparent)]
     Types(TypesRefusal),
 }
 
-/// An option of `recording` or `audit` whose value is checked behind the words of the call.
+/// An option of `recording`, `audit` or `explore` whose value is checked behind the words of the call.
 #[derive(Clone, Copy, Debug, PartialEq, Eq)]
 pub enum OptionName {
     /// `--ports`.
@@ -68,6 +75,10 @@ pub enum OptionName {
     Vlan,
     /// `--dedup`.
     Dedup,
+    /// `--steps`.
+    Steps,
+    /// `--most`.
+    Most,
 }
 
 /// Why the program did not do its work. Printed, it is the text for standard error.
@@ -188,6 +199,8 @@ fn form_of(option: OptionName) -> &'static str {
         OptionName::Interface => "--interface <N>",
         OptionName::Vlan => "--vlan <ID>",
         OptionName::Dedup => "--dedup <MS>",
+        OptionName::Steps => "--steps <N>",
+        OptionName::Most => "--most <M>",
     }
 }
 
@@ -203,6 +216,8 @@ fn values_of(option: OptionName) -> &'static str {
         OptionName::Interface => "interfaces are numbers from 0 to 65535 with commas between them",
         OptionName::Vlan => "VLAN IDs are numbers from 0 to 4095 with commas between them",
         OptionName::Dedup => "copies come within 1 to 60000 milliseconds",
+        OptionName::Steps => "steps are a number from 0 to 16",
+        OptionName::Most => "schedules are a number from 1 to 1000000000000",
     }
 }
 

@@ -12,6 +12,7 @@ ghost use Rattle.someipctl_cli.specs.CommandLine.{with_choice, with_filters, wit
 ghost use Rattle.someipctl_cli.specs.CommandLine.{with_packets, with_settings};
 ghost use Rattle.someipctl_cli.specs.CommandLine.{with_whole};
 
+use crate::explore_words::explore_definition;
 use crate::examples::{
     AUDIT_EXAMPLE, CHART_EXAMPLE, ENCODE_EXAMPLE, PAYLOAD_EXAMPLE, PROGRAM_EXAMPLE,
     RECORDING_EXAMPLE, RUN_EXAMPLE, SHOW_EXAMPLE, VECTORS_EXAMPLE,
@@ -30,7 +31,8 @@ pub(crate) fn definition<'d>(alloc: Global) -> Result<clap::Command<'d>, AllocEr
     let run = adding(vectors, run_definition(alloc));
     let recording = adding(run, recording_definition(alloc));
     let chart = adding(recording, chart_definition(alloc));
-    adding(chart, audit_definition(alloc))
+    let audit = adding(chart, audit_definition(alloc));
+    adding(audit, explore_definition(alloc))
 }
 
 /// A command with a further one below it, where both are there.
@@ -431,7 +433,7 @@ fn add_whole<'d>(
 }
 
 /// A command with a further argument, where it is there.
-fn taking<'d>(
+pub(crate) fn taking<'d>(
     command: Result<clap::Command<'d>, AllocError>,
     arg: Arg<'d>,
 ) -> Result<clap::Command<'d>, AllocError>
@@ -445,7 +447,7 @@ fn taking<'d>(
 }
 
 /// A positional argument that a call has to have, by its name.
-fn needed<'d>(alloc: Global, name: &'d str, value_name: &'d str) -> Arg<'d>
+pub(crate) fn needed<'d>(alloc: Global, name: &'d str, value_name: &'d str) -> Arg<'d>
     ensures rule { rule_of result ≡ required name.entry.now }
     ensures local { result.global ≡ false }
 {
@@ -475,7 +477,7 @@ fn files<'d>(alloc: Global) -> Arg<'d>
 }
 
 /// An option with a value, by its name.
-fn valued_option<'d>(alloc: Global, name: &'d str, value_name: &'d str, help: &'d str) -> Arg<'d>
+pub(crate) fn valued_option<'d>(alloc: Global, name: &'d str, value_name: &'d str, help: &'d str) -> Arg<'d>
     ensures rule { rule_of result ≡ valued name.entry.now }
     ensures local { result.global ≡ false }
 {

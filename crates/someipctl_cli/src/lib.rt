@@ -1,14 +1,16 @@
 //! The command line of `someipctl`: what its words ask for, and how the program ends.
 //!
 //! What a command reads, does and prints stands in `someipctl_show`, of `recording` and `audit` in
-//! `someipctl_recordings`, and of `run` and `chart` in `someipctl_run`.
+//! `someipctl_recordings`, and of `run` and `chart` in `someipctl_run`, of `explore` in
+//! `someipctl_explore`.
 //!
 //! - `command`, `help`: what the words ask for, and the answer to others;
 //! - `grammar`: the commands with their arguments, as `clap` is told of them;
 //! - `examples`: the text below each help;
 //! - `program`: the words, and the exit status;
 //! - `options`, `source`: what options ask for, and the files that are named;
-//! - `recordings`, `runs`: the commands over recordings, and over setups and schedules;
+//! - `explore_words`: the words of `explore`;
+//! - `recordings`, `runs`, `explorations`: the commands over recordings, and over setups;
 //! - `failure`: why the program failed, with its exit status and its text;
 //! - `laws`: what the definitions behind the contracts promise.
 //!
@@ -19,6 +21,8 @@
 
 mod command;
 mod examples;
+mod explorations;
+mod explore_words;
 mod failure;
 mod grammar;
 mod help;
@@ -32,6 +36,7 @@ mod source;
 pub use command::{
     AuditOptions, ChoiceOptions, Command, LineError, PacketOptions, RecordingOptions, command_of,
 };
+pub use explore_words::ExploreOptions;
 pub use failure::{Failure, OptionName, Refusal};
 pub use help::answer_error;
 pub use program::{answer, report, run, words_of};

@@ -4,6 +4,7 @@ ghost use Rattle.std.specs.Prelude.{◌≡◌};
 ghost use Rattle.someipctl_cli.specs.Failures.{status_of_failure};
 
 use crate::command::{Command, command_of};
+use crate::explorations::explore_files;
 use crate::failure::{Failure, Refusal};
 use crate::help::answer_error;
 use crate::options::{line_form, services_of};
@@ -114,6 +115,12 @@ fn run_command<'w, R: Files + Print + Eprint + Input + AllocGlobal>(
         Command::Chart { setup, schedule } => chart_files(rt, setup, schedule),
         Command::Recording { files, options } => show_recorded(rt, &files, options),
         Command::Audit { files, options } => audit_recorded(rt, &files, options),
+        Command::Explore {
+            setup,
+            moves,
+            goal,
+            options,
+        } => explore_files(rt, setup, moves, goal, &options),
     }
 }
 

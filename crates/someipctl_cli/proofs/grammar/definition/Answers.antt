@@ -9,4 +9,5 @@ returns c =
     let run = c.adding-run.ensures _ _ vectors c.run_definition.ensures.shape in
     let recording = c.adding-recording.ensures _ _ run c.recording_definition.ensures.shape in
     let chart = c.adding-chart.ensures _ _ recording c.chart_definition.ensures.shape in
-    c.adding.ensures _ _ chart c.audit_definition.ensures.shape
+    let audit = c.adding-audit.ensures _ _ chart c.audit_definition.ensures.shape in
+    c.adding.ensures _ _ audit c.explore_definition.ensures.shape

@@ -1,0 +1,6 @@
+pub mod WordLemmas
+pub mod ReadLemmas
+pub mod LineLemmas
+pub mod StepLemmas
+pub mod TextLemmas
+pub mod GoalLemmas

@@ -1,0 +1,6 @@
+pub mod StepLines
+pub mod WholeSteps
+pub mod ResultTexts
+pub mod GoalTexts
+pub mod MovesTexts
+pub mod Commands
