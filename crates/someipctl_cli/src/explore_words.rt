@@ -1,6 +1,6 @@
 //! The words of `explore`: its options as `clap` is told of them, and what they ask for.
 ghost use Rattle.std.specs.Prelude.{◌≡◌, IfOk, false, map, option_map};
-ghost use Rattle.clap.specs.Words.{App, first_value, found_of, rule_of, shape_of};
+ghost use Rattle.clap.specs.Words.{App, app_of, first_value, found_of, rule_of, shape_of};
 ghost use Rattle.clap.specs.declared.builder.Command.TheViews.{out-Command};
 ghost use Rattle.someipctl_cli.specs.CommandLine.{asked_by_command, asked_by_explore, asked_by_explore_options};
 ghost use Rattle.someipctl_cli.specs.CommandLine.{explore_options_by, explore_usage, texts_at, valued_many};

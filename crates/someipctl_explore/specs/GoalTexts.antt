@@ -1,5 +1,5 @@
 -- The goal that texts spell, and which words can stand in no trace.
-use Rattle.std.specs.Prelude.{ℕ, ◌≡◌, Bool, false, if◌then◌else◌, List, [], ◌∷◌, map, codes, bytes_eq, is_none, Option, Some, None}
+use Rattle.std.specs.Prelude.{ℕ, ◌≡◌, ◌&&◌, ◌||◌, Bool, false, if◌then◌else◌, List, [], ◌∷◌, map, codes, bytes_eq, is_none, Option, Some, None}
 use Rattle.std.specs.List.{list_any}
 use Rattle.std.specs.Option.{option_or}
 use Rattle.std.specs.Borrow.{Bor}
@@ -45,6 +45,20 @@ abbrev pub words_fault : List SetupNode → List (List ℕ) → Option GoalRefus
 words_fault nodes [] = None
 words_fault nodes (name ∷ words) = if is_none (place_of nodes name) then Some UnknownNode else rest_fault words
 
+-- a verdict tells so
+abbrev pub is_verdict : List ℕ → Bool
+is_verdict word = bytes_eq word (codes "clean") || bytes_eq word (codes "broken")
+
+-- the line of a verdict may begin with some words
+abbrev pub begins_verdict : List (List ℕ) → Bool
+begins_verdict [] = false
+begins_verdict (name ∷ []) = bytes_eq name (codes "reuse")
+begins_verdict (name ∷ word ∷ words) = bytes_eq name (codes "reuse") && is_verdict word
+
+-- why no line begins with the words of a goal, that of the verdict too
+abbrev pub goal_fault : List SetupNode → List (List ℕ) → Option GoalRefusal
+goal_fault nodes words = if begins_verdict words then None else words_fault nodes words
+
 -- the first fault of all these words
 abbrev pub first_fault : List SetupNode → List (List (List ℕ)) → Option GoalRefusal
 first_fault nodes [] = None
@@ -53,7 +67,7 @@ first_fault nodes (words ∷ others) = option_or (words_fault nodes words) (firs
 -- the first fault of a goal: of its words, then of those that stand before, then of those that don't
 abbrev pub fault_of_goal : List SetupNode → Goal → Option GoalRefusal
 fault_of_goal nodes goal =
-    option_or (option_or (words_fault nodes goal.words) (first_fault nodes goal.once)) (first_fault nodes goal.never)
+    option_or (option_or (goal_fault nodes goal.words) (first_fault nodes goal.once)) (first_fault nodes goal.never)
 
 -- a goal is refused, or memory ran out
 abbrev pub RefusesGoal : List SetupNode → Goal → Fault GoalRefusal → Type 0

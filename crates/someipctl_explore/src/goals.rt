@@ -2,7 +2,8 @@
 ghost use Rattle.std.specs.Prelude.{◌≡◌, None, IfErr, IfOk, OnOk, map, string_bytes};
 ghost use Rattle.someip_world_schedule.specs.Steps.{words_in};
 ghost use Rattle.someip_explore.specs.GoalViews.{goal_of, words_of};
-ghost use Rattle.someipctl_explore.specs.GoalTexts.{RefusesGoal, fault_of_goal, first_fault, goal_in, is_told, texts_at};
+ghost use Rattle.someipctl_explore.specs.GoalTexts.{RefusesGoal, begins_verdict, fault_of_goal, first_fault};
+ghost use Rattle.someipctl_explore.specs.GoalTexts.{goal_fault, goal_in, is_told, is_verdict, texts_at};
 ghost use Rattle.someipctl_explore.specs.GoalTexts.{words_fault};
 
 use crate::error::GoalRefusal;
@@ -112,6 +113,36 @@ fn words_fault(nodes: &[SetupNode], words: &[String]) -> Option<GoalRefusal>
     }
 }
 
+/// Whether a verdict tells so.
+fn is_verdict(word: &str) -> bool
+    ensures { result ≡ is_verdict word.now }
+{
+    word == "clean" || word == "broken"
+}
+
+/// Whether the line of a verdict may begin with some words.
+fn begins_verdict(words: &[String]) -> bool
+    ensures { result ≡ begins_verdict (map string_bytes words.now) }
+{
+    let [name, others @ ..] = words else {
+        return false;
+    };
+    let [word, ..] = others else {
+        return name.as_str() == "reuse";
+    };
+    name.as_str() == "reuse" && is_verdict(word.as_str())
+}
+
+/// Why no line begins with the words of a goal, that of the verdict too.
+fn goal_fault(nodes: &[SetupNode], words: &[String]) -> Option<GoalRefusal>
+    ensures { result ≡ goal_fault nodes.now (map string_bytes words.now) }
+{
+    if begins_verdict(words) {
+        return None;
+    }
+    words_fault(nodes, words)
+}
+
 /// The first fault of all these words.
 fn first_fault(nodes: &[SetupNode], all: &[Vec<String>]) -> Option<GoalRefusal>
     ensures { result ≡ first_fault nodes.now (map words_of all.now) }
@@ -128,7 +159,7 @@ fn first_fault(nodes: &[SetupNode], all: &[Vec<String>]) -> Option<GoalRefusal>
 fn fault_of_goal(nodes: &[SetupNode], goal: &Goal) -> Option<GoalRefusal>
     ensures { result ≡ fault_of_goal nodes.now (goal_of goal.now) }
 {
-    if let Some(fault) = words_fault(nodes, goal.words.as_slice()) {
+    if let Some(fault) = goal_fault(nodes, goal.words.as_slice()) {
         return Some(fault);
     }
     if let Some(fault) = first_fault(nodes, goal.once.as_slice()) {

@@ -99,17 +99,17 @@ fn move_of(alloc: Global, line: &[u8]) -> Result<Option<Move>, WordFault>
 fn first_misfit(nodes: &[SetupNode], moves: &[Move], lines: &[usize]) -> Option<MovesRefusal>
     ensures { result ≡ first_misfit nodes.now moves.now lines.now }
 {
-    let mut moves = moves;
-    let mut lines = lines;
-    while let [one, others @ ..] = moves {
-        let [line, more @ ..] = lines else {
+    let mut left = moves;
+    let mut numbers = lines;
+    while let [one, others @ ..] = left {
+        let [line, more @ ..] = numbers else {
             return None;
         };
         if let Some(fault) = one.misfit(nodes) {
             return Some(MovesRefusal::Misfit(*line, fault));
         }
-        moves = others;
-        lines = more;
+        left = others;
+        numbers = more;
     }
     None
 }
