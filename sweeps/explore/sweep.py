@@ -34,7 +34,7 @@ MOVES = [
     "unsubscribe b 1111.0001 0001", "publish a 1111.0001 8001 2a", "publish a 1111.0001 8001 00*8",
     "publish_to a 1111.0001 0001 192.168.0.2:40001 8001 2b", "restart a 10", "restart b 20", "stop_offer a 1111.0001",
 ]
-LIES = [f"inject c 30509 192.168.0.2:40001 {ANSWER}", "inject c 30490 239.0.0.1:30490 ffff*20"]
+LIES = [f"inject c 30509 192.168.0.2:40001 {ANSWER}", "inject c 30490 239.0.0.1:30490 ff*20"]
 GOALS = [
     "b known", "b gone", "b answer", "b timeout", "b event", "b subscribed", "b unsubscribed", "b reboot", "a request",
     "a request 2", "a accepted", "b dropped", "b dropped NotPending", "b dropped NotSubscribed", "b refused", "b",

@@ -51,13 +51,9 @@ RefusesLines text fault = ⊥
 
 -- ---- moves that fit a setup
 
--- the refusal of a move of this line
-abbrev pub misfit_on : ℕ → StepFault → MovesRefusal
-misfit_on line fault = Misfit line fault
-
--- the first of some moves that can't happen over the nodes of a setup, by the lines on which they stand
-abbrev pub first_misfit : List SetupNode → List Move → List ℕ → Option MovesRefusal
-first_misfit nodes (one ∷ moves) (line ∷ lines) = option_or (option_map (misfit_on line) (misfit nodes one)) (first_misfit nodes moves lines)
+-- the first of some moves that can't happen over the nodes of a setup, by the lines on which they stand: its line, and why
+abbrev pub first_misfit : List SetupNode → List Move → List ℕ → Option (ℕ × StepFault)
+first_misfit nodes (one ∷ moves) (line ∷ lines) = option_or (option_map (λ fault. (line, fault)) (misfit nodes one)) (first_misfit nodes moves lines)
 first_misfit nodes moves lines = None
 
 -- these are the moves of a text: no line is bad
@@ -73,7 +69,7 @@ abbrev pub HasNoMoves : List SetupNode → List ℕ → MovesRefusal → Type 0
 HasNoMoves nodes text (BadLine line) = first_bad_move text ≡ Some line
 HasNoMoves nodes text NoMove = (moves_of text ≡ []) × (first_bad_move text ≡ None)
 HasNoMoves nodes text (Misfit line fault) =
-    (moves : List Move) × SpellsMoves text moves × (first_misfit nodes moves (lines_of_steps text) ≡ Some (Misfit line fault))
+    (moves : List Move) × SpellsMoves text moves × (first_misfit nodes moves (lines_of_steps text) ≡ Some (line, fault))
 
 -- it is refused, or memory ran out
 abbrev pub RefusesMoves : List SetupNode → List ℕ → Fault MovesRefusal → Type 0

@@ -8,7 +8,7 @@ ghost use Rattle.someipctl_explore.specs.MovesTexts.{first_bad_move, first_misfi
 use crate::error::MovesRefusal;
 use someip_explore::Move;
 use someip_texts::{is_left_out, text_of};
-use someip_world::SetupNode;
+use someip_world::{SetupNode, StepFault};
 use someip_world_schedule::WordFault;
 use someipctl_io::{Fault, read_all};
 use std::alloc::Global;
@@ -54,7 +54,7 @@ fn moves_of(
         return Err(Fault::Refused(MovesRefusal::NoMove));
     }
     match first_misfit(nodes, &read.moves, &read.lines) {
-        Some(misfit) => Err(Fault::Refused(misfit)),
+        Some((line, fault)) => Err(Fault::Refused(MovesRefusal::Misfit(line, fault))),
         None => Ok(read.moves),
     }
 }
@@ -96,7 +96,7 @@ fn move_of(alloc: Global, line: &[u8]) -> Result<Option<Move>, WordFault>
 }
 
 /// The first of some moves that can't happen over the nodes of a setup, with the line on which it stands.
-fn first_misfit(nodes: &[SetupNode], moves: &[Move], lines: &[usize]) -> Option<MovesRefusal>
+fn first_misfit(nodes: &[SetupNode], moves: &[Move], lines: &[usize]) -> Option<(usize, StepFault)>
     ensures { result ≡ first_misfit nodes.now moves.now lines.now }
 {
     let mut left = moves;
@@ -106,7 +106,7 @@ fn first_misfit(nodes: &[SetupNode], moves: &[Move], lines: &[usize]) -> Option<
             return None;
         };
         if let Some(fault) = one.misfit(nodes) {
-            return Some(MovesRefusal::Misfit(*line, fault));
+            return Some((*line, fault));
         }
         left = others;
         numbers = more;
