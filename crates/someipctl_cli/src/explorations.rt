@@ -72,7 +72,12 @@ fn explore_moves<'p, R: Files + Print + AllocGlobal>(
 /// How far the search goes.
 fn limits_of<'p>(options: &ExploreOptions<'p>) -> Result<Limits, Failure<'p>> {
     let steps = number_of(OptionName::Steps, options.steps, (0, MOST_STEPS), STEPS)?;
-    let schedules = number_of(OptionName::Most, options.most, (1, MOST_SCHEDULES), SCHEDULES)?;
+    let schedules = number_of(
+        OptionName::Most,
+        options.most,
+        (1, MOST_SCHEDULES),
+        SCHEDULES,
+    )?;
     // Both are in the range that limits have, so these are there.
     match Limits::new(steps as usize, schedules) {
         Some(limits) => Ok(limits),

@@ -12,11 +12,11 @@ ghost use Rattle.someipctl_cli.specs.CommandLine.{with_choice, with_filters, wit
 ghost use Rattle.someipctl_cli.specs.CommandLine.{with_packets, with_settings};
 ghost use Rattle.someipctl_cli.specs.CommandLine.{with_whole};
 
-use crate::explore_words::explore_definition;
 use crate::examples::{
     AUDIT_EXAMPLE, CHART_EXAMPLE, ENCODE_EXAMPLE, PAYLOAD_EXAMPLE, PROGRAM_EXAMPLE,
     RECORDING_EXAMPLE, RUN_EXAMPLE, SHOW_EXAMPLE, VECTORS_EXAMPLE,
 };
+use crate::explore_words::explore_definition;
 use clap::{Arg, ArgAction};
 use std::alloc::{AllocError, Global};
 
@@ -477,7 +477,12 @@ fn files<'d>(alloc: Global) -> Arg<'d>
 }
 
 /// An option with a value, by its name.
-pub(crate) fn valued_option<'d>(alloc: Global, name: &'d str, value_name: &'d str, help: &'d str) -> Arg<'d>
+pub(crate) fn valued_option<'d>(
+    alloc: Global,
+    name: &'d str,
+    value_name: &'d str,
+    help: &'d str,
+) -> Arg<'d>
     ensures rule { rule_of result ≡ valued name.entry.now }
     ensures local { result.global ≡ false }
 {

@@ -131,7 +131,10 @@ pub(crate) fn chart_files<'p, R: Files + Print + AllocGlobal>(
 }
 
 /// The setup of the file at a path.
-pub(crate) fn setup_at<'p, R: Files + AllocGlobal>(rt: &R, path: &'p str) -> Result<Setup, Failure<'p>> {
+pub(crate) fn setup_at<'p, R: Files + AllocGlobal>(
+    rt: &R,
+    path: &'p str,
+) -> Result<Setup, Failure<'p>> {
     let mut file = open_file(rt, path)?;
     read_setup(rt.alloc(), &mut file).map_err(|fault| Failure::of(fault.map(Refusal::Setup), path))
 }

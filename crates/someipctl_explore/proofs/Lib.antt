@@ -4,3 +4,4 @@ pub mod LineLemmas
 pub mod StepLemmas
 pub mod TextLemmas
 pub mod GoalLemmas
+pub mod CommandLemmas

@@ -6,10 +6,10 @@ ghost use Rattle.someipctl_run.specs.Faults.{fault_of_run, fault_of_schedule};
 ghost use Rattle.someipctl_explore.specs.Commands.{Explores, ExploresPartly, HasLines, Tells};
 
 use crate::result_texts::{exploration_text, outcome_of};
-use someip_explore::{Exploration, Goal, Limits, Move, explore};
+use someip_explore::{Goal, Limits, Move, explore};
 use someip_tp::IntervalPool;
 use someip_world::{RunError, ScheduleError, Setup, Step, read_schedule, run};
-use someipctl_io::{Fault, Outcome, write_text};
+use someipctl_io::{CannotWrite, Fault, Outcome, write_text};
 use someipctl_run::ScheduleRefusal;
 use std::alloc::Global;
 use std::io::Write;
@@ -23,6 +23,7 @@ struct Told {
 
 /// Tries the schedules that begin with the steps of a text and go on by moves, over the nodes of a setup, and
 /// then writes the first that reaches the goal, or that none does.
+#[tactic(auto, using(crate::proofs::CommandLemmas::partly))]
 pub fn explore_schedules<W: Write>(
     alloc: Global,
     setup: &Setup,
@@ -42,8 +43,10 @@ pub fn explore_schedules<W: Write>(
         setup.now.nodes text.now fault (W.contents writer.old) (W.contents writer.new)) }
 {
     let told = explored(alloc, setup, text, moves, goal, limits)?;
-    write_text(writer, &told.text)?;
-    Ok(told.outcome)
+    match write_text(writer, &told.text) {
+        Ok(()) => Ok(told.outcome),
+        Err(CannotWrite) => Err(Fault::CannotWrite),
+    }
 }
 
 /// What is told of the search.

@@ -28,7 +28,9 @@ pub(crate) fn line_text(
 {
     let mut text = Vec::new(alloc);
     let mut buffer = Buffer::new(alloc)?;
-    buffer.put(&mut text, head.as_bytes()).map_err(|_| AllocError)?;
+    buffer
+        .put(&mut text, head.as_bytes())
+        .map_err(|_| AllocError)?;
     put_end(&mut buffer, &mut text, words).map_err(|_| AllocError)?;
     buffer.flush(&mut text).map_err(|_| AllocError)?;
     Ok(text)
@@ -123,12 +125,7 @@ fn reply_code(reply: Reply) -> u8
 }
 
 /// The line of a step that names a node and a time.
-fn timed_line(
-    alloc: Global,
-    head: &str,
-    node: &NodeName,
-    ms: u64,
-) -> Result<Vec<u8>, AllocError>
+fn timed_line(alloc: Global, head: &str, node: &NodeName, ms: u64) -> Result<Vec<u8>, AllocError>
     ensures { IfOk result (λ text. text.items ≡ line_text head.now (node.now ∷ decimal ms ∷ [])) }
 {
     let words = [Word::Text(node.as_str()), Word::Number(ms as usize)];
@@ -316,7 +313,12 @@ fn step_line(alloc: Global, step: &Step) -> Result<Vec<u8>, AllocError>
             event,
             payload,
         } => publish_to_line(alloc, node, *eventgroup, *to, *event, payload),
-        Step::Subscribe { node, eventgroup } => eventgroup_line(alloc, "subscribe", node, *eventgroup),
+        Step::Subscribe { node, eventgroup } => eventgroup_line(
+            alloc,
+            "subscribe",
+            node,
+            *eventgroup,
+        ),
         Step::Unsubscribe { node, eventgroup } => {
             eventgroup_line(alloc, "unsubscribe", node, *eventgroup)
         }
@@ -332,11 +334,7 @@ fn step_line(alloc: Global, step: &Step) -> Result<Vec<u8>, AllocError>
 }
 
 /// Adds the lines of steps to a text.
-pub(crate) fn put_steps(
-    alloc: Global,
-    steps: &[Step],
-    text: &mut Vec<u8>,
-) -> Result<(), AllocError>
+pub(crate) fn put_steps(alloc: Global, steps: &[Step], text: &mut Vec<u8>) -> Result<(), AllocError>
     ensures { OnOk result (text.new.items ≡ text.old.items ++ steps_text steps.now) }
 {
     for step in steps {
