@@ -2,11 +2,13 @@
 ghost use Rattle.std.specs.Prelude.{◌≡◌, ◌++◌, ◌∷◌, [], IfErr, OnErr, OnOk, codes, map};
 ghost use Rattle.someipctl_io.specs.declared.Fault.TheVariants.{CannotRead};
 ghost use Rattle.someipctl_io.specs.Sending.{Sends, Stops};
-ghost use Rattle.someipctl_io.specs.ToldLines.{field, line_text, mark};
+ghost use Rattle.someipctl_io.specs.ToldLines.{field, line_text, mark, text};
+ghost use Rattle.someipctl_show.specs.VerdictForms.{head_of, wordless};
 ghost use Rattle.someipctl_io.specs.ToldViews.{view_field, view_said};
 ghost use Rattle.someipctl_io.specs.declared.form.Form.TheVariants.{Plain};
 ghost use Rattle.someipctl_recordings.specs.audit.Groupings.{group_fields, grouped_line, grouped_lines, groups_text};
 ghost use Rattle.someipctl_recordings.specs.audit.Groupings.{id_or_nothing, line_of_kind, lines_of_kind};
+ghost use Rattle.someipctl_recordings.specs.audit.Kinds.{kind_words};
 
 use crate::audit::kind::{Kind, kinds};
 use crate::audit::summary::put_object;
@@ -125,18 +127,47 @@ fn put_plain_group<W: Write>(
     ensures err { OnErr result (Stops (W.contents writer.old) buffer.old (W.contents writer.new)
         (grouped_line Plain kind one.now)) }
 {
+    put_behind(
+        buffer,
+        writer,
+        &kind_fields(kind),
+        kind.name(),
+        &plain_fields(one),
+    )
+}
+
+/// Prints a plain line of a kind, which begins with these fields.
+fn put_behind<'l, W: Write>(
+    buffer: &mut Buffer,
+    writer: &mut W,
+    number: &'l [Field<'l>],
+    kind: &'l str,
+    fields: &'l [Field<'l>],
+) -> Result<(), CannotWrite>
+    ensures ok { OnOk result (Sends (W.contents writer.old) buffer.old (W.contents writer.new) buffer.new
+        (line_text Plain (head_of (map view_field number.now)) (wordless kind.now (map view_field fields.now)))) }
+    ensures err { OnErr result (Stops (W.contents writer.old) buffer.old (W.contents writer.new)
+        (line_text Plain (head_of (map view_field number.now)) (wordless kind.now (map view_field fields.now)))) }
+{
     let head = LineHead {
         form: Form::Plain,
-        number: &[field_of("", "kind", Said::Text(kind.words()))],
+        number,
         origin: &[],
         place: &[],
     };
     let line = Line {
-        kind: kind.name(),
+        kind,
         word: None,
-        fields: &plain_fields(one),
+        fields,
     };
     put_line(buffer, writer, &head, &line)
+}
+
+/// What a plain line begins with.
+fn kind_fields(kind: Kind) -> [Field<'static>; 1]
+    ensures { map view_field result ≡ field [] (codes "kind") (text (kind_words kind)) ∷ [] }
+{
+    [field_of("", "kind", Said::Text(kind.words()))]
 }
 
 /// What the object of a group tells behind its kind.
