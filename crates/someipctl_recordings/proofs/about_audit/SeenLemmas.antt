@@ -1,5 +1,5 @@
 -- What an audit tells of the datagrams that come, and of those after them.
-use Rattle.std.proofs.Common.{◌≡◌, ℕ, ◌+◌, ◌-◌, Bool, true, false, List, [], ◌∷◌, ◌++◌, map, filter, if◌then◌else◌, length, Option, Some, None, refl, sym, ap, ◌∙◌, inl, inr, arith, add-zero, suc}
+use Rattle.std.proofs.Common.{◌≡◌, ℕ, ◌+◌, ◌-◌, Bool, true, false, List, [], ◌∷◌, ◌++◌, map, filter, if◌then◌else◌, length, Option, Some, None, refl, sym, ap, subst, ◌∙◌, inl, inr, arith, add-zero, suc}
 use Rattle.std.specs.Prelude.{◌⊎◌, slice_get, option_and_then}
 use Rattle.std.specs.List.{flat_map}
 use Rattle.std.proofs.lemmas.List.{append-nil}

@@ -27,7 +27,7 @@ module _ (asked : AskedAudit) (time : Option Time) (groups : Option Groups) (rep
 
 -- where it was not printed, printing it could stop here
 pub stops_any : (a : Option (List ℕ)) (held text : List ℕ) → Stops a held a text
-stops_any a held text = Stops-before a held a [] text (stops_here a held a held [] (Sends-nil a held))
+stops_any a held text = Stops-before a a held [] text (stops_here a held a held [] (Sends-nil a held))
 
 -- one that is told is counted
 pub told_counts : (asked : AskedAudit) (time : Option Time) (before after : Tally) (report : Report) → is_told_at asked time report ≡ true
