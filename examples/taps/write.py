@@ -1,9 +1,11 @@
-"""The recording examples/taps/two.pcapng, whose story stands beside it in README.md. Written to standard output.
+"""The recordings of examples/taps, whose stories stand beside them in README.md. Written to standard output.
 
     write.py > two.pcapng
+    write.py one > one.pcapng
 
-Two taps stand on the way between the nodes a and b: tap 0 at a, and tap 1 at b, where packets have VLAN 5. So each packet
-comes twice, at the tap of its receiver 50 microseconds later. One answer is lost between the taps.
+In `two` two taps stand on the way between the nodes a and b: tap 0 at a, and tap 1 at b, where packets have VLAN 5. So each
+packet comes twice, at the tap of its receiver 50 microseconds later. One answer is lost between the taps. In `one` a tap
+has only what b sends: ten calls.
 """
 import struct
 import sys
@@ -112,6 +114,16 @@ STORY = [
 ]
 
 
+CALLS = [(500 * number, call(number)) for number in range(1, 11)]
+
+
+def packets_of_calls():
+    """Each packet of the calls at the tap of what b sends."""
+    for number, (after, (source, destination, data)) in enumerate(CALLS, 1):
+        for packet in ipv4(number, source, destination, data):
+            yield BEGIN + after * 1000, 0, ethernet(source, destination, 0, packet)
+
+
 def packets():
     """Each packet that a tap has: its time, the tap and its bytes."""
     sent = {A: 0, B: 0}
@@ -125,11 +137,11 @@ def packets():
             time += 123
 
 
-def recording():
+def recording(taps, found):
     section = block(0x0A0D0D0A, struct.pack("<IHHq", 0x1A2B3C4D, 1, 0, -1))
-    taps = block(1, struct.pack("<HHI", 1, 0, 0)) * 2
-    return section + taps + b"".join(captured(*packet) for packet in sorted(packets()))
+    return section + block(1, struct.pack("<HHI", 1, 0, 0)) * taps + b"".join(captured(*packet) for packet in sorted(found))
 
 
 if __name__ == "__main__":
-    sys.stdout.buffer.write(recording())
+    is_one = sys.argv[1:] == ["one"]
+    sys.stdout.buffer.write(recording(1, packets_of_calls()) if is_one else recording(2, packets()))

@@ -212,6 +212,8 @@ class Draws:
             words += ["--overtake-ms", self.one("0", "1", "10", "1000", "60000")]
         if self.chance(0.2):
             words += ["--sessions", self.one("sender", "sender", "event")]
+        if self.chance(0.3):
+            words += ["--group"]
         return words
 
 

@@ -1,8 +1,9 @@
 """What `someipctl audit` has to print of a recording, told from docs/AUDIT.md and not from the sources. It keeps whole
 lists of what was seen, and looks back over them for each finding; nothing is forgotten, and nothing is ever full.
 
-    model.py [--ports PORTS] [--answer-ms N] [--settle-ms N] [--overtake-ms N] [--sessions HOW] RECORDING
+    model.py [--ports PORTS] [--answer-ms N] [--settle-ms N] [--overtake-ms N] [--sessions HOW] [--group] RECORDING
 """
+import re
 import sys
 from collections import Counter, defaultdict
 from typing import Callable, NamedTuple, Optional
@@ -15,7 +16,10 @@ KINDS = ("malformed", "bad run", "no endpoint", "reboot", "sd session", "sd over
          "unasked", "repeated", "key reused", "interface", "not offered", "event repeated", "event overtaken", "event gap",
          "event unsubscribed", "segments", "segments missing", "offer expired", "offer moved", "nack",
          "subscribe unanswered", "unasked ack", "unasked nack", "full")
+OF_SERVICES = ("bad run", "no endpoint", "offer expired", "offer moved", "nack", "subscribe unanswered", "unasked ack",
+               "unasked nack")
 CALLS, SEGMENTS, OFFERS, SUBSCRIBES, GAPS = range(5)
+SHOWN = 3
 MOST_BEHIND = 64
 FIRST_GROUP = wire.address("224.0.0.0")
 
@@ -30,6 +34,7 @@ class Rules(NamedTuple):
     settle: int = 10000
     overtake: int = 100
     by_sender: bool = False
+    group: bool = False
 
 
 class Finding(NamedTuple):
@@ -45,8 +50,23 @@ class Finding(NamedTuple):
         ends = f"{wire.endpoint_text(named.source)} {wire.endpoint_text(named.destination)}"
         return f"{self.time} {named.number} {ends} {self.text}"
 
+    def named(self):
+        """The service and the method or event that it names, and - for one that it does not."""
+        ids = re.search(r"([0-9a-f]{4})\.([0-9a-f]{4})", self.text)
+        if ids is None:
+            return "-.-"
+        return f"{ids[1]}.-" if self.kind in OF_SERVICES else ids[0]
+
+    def group(self):
+        return KINDS.index(self.kind), self.named(), self.datagram.source, self.datagram.destination
+
 
 # ---- Texts
+
+def group_text(group, more):
+    kind, named, source, destination = group
+    return f"{KINDS[kind]} {named} {wire.endpoint_text(source)} {wire.endpoint_text(destination)} {more} more"
+
 
 def call_text(header):
     return f"{header.service:04x}.{header.method:04x} client {header.client:04x} session {header.session:04x}"
@@ -102,10 +122,16 @@ class Audit:
 
     def text(self):
         told = [finding for finding in self.findings if finding.kind == "full" or self.rules.chosen(finding)]
-        lines = [self.head(finding) + finding.line() for finding in told]
-        lines.append(f"audited {len(self.looked)} datagrams, {self.messages} messages, {len(lines)} findings")
+        lines, groups = [], Counter()
+        for finding in told:
+            groups[finding.group()] += 1
+            if not self.rules.group or groups[finding.group()] <= SHOWN:
+                lines.append(self.head(finding) + finding.line())
+        lines.append(f"audited {len(self.looked)} datagrams, {self.messages} messages, {len(told)} findings")
         kinds = [finding.kind for finding in told]
         lines += [f"{kind} {kinds.count(kind)}" for kind in KINDS if kind in kinds]
+        if self.rules.group:
+            lines += [group_text(group, number - SHOWN) for group, number in sorted(groups.items()) if number > SHOWN]
         lines += unjudged(len(self.datagrams) - len(self.looked), self.seen)
         return "".join(f"{line}\n" for line in lines)
 
@@ -638,6 +664,9 @@ def rules_of(words):
     """The rules that options say, and the words after them."""
     rules = Rules()
     while words and words[0].startswith("--"):
+        if words[0] == "--group":
+            rules, words = rules._replace(group=True), words[1:]
+            continue
         option, value, *words = words
         if option == "--ports":
             rules = rules._replace(ports=list(map(int, value.split(","))))

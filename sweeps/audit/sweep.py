@@ -57,7 +57,7 @@ class Sweep:
         self.program, self.seed, self.folder = program, seed, Path(folder)
         self.counts, self.kinds = collections.Counter(), collections.Counter()
         self.calm_types = set()
-        self.unjudged = set()
+        self.unjudged, self.groups = set(), 0
         self.differences = 0
 
     def generator(self, *words):
@@ -75,12 +75,14 @@ class Sweep:
         path.write_bytes(data)
         got, status = self.printed(words, path)
         lines = expected.splitlines()
-        findings = int(lines[next(at for at, line in enumerate(lines) if line.startswith("audited "))].split(" ")[-2])
+        at = next(at for at, line in enumerate(lines) if line.startswith("audited "))
+        summary, findings = lines[at + 1:], int(lines[at].split(" ")[-2])
         self.counts[sort] += 1
-        self.counts["datagrams"] += int(lines[findings].split(" ")[1])
-        counted = [line.rpartition(" ") for line in lines[findings + 1:]]
+        self.counts["datagrams"] += int(lines[at].split(" ")[1])
+        counted = [line.rpartition(" ") for line in summary]
         self.kinds.update({kind: int(number) for kind, _, number in counted if kind in model.KINDS})
-        self.unjudged.update(line.split(" ")[0] for line in lines[findings + 1:] if line.startswith(UNJUDGED))
+        self.groups += sum(line.endswith(" more") for line in summary)
+        self.unjudged.update(line.split(" ")[0] for line in summary if line.startswith(UNJUDGED))
         if got != expected or status != int(findings > 0):
             self.keep(f"{sort}-{name}", data, words, expected, got, status)
 
@@ -131,7 +133,7 @@ class Sweep:
     def rough(self, count):
         for number, some, records in self.worlds("rough", count):
             words = some.choice(([], ["--settle-ms", "1"], ["--settle-ms", "1", "--answer-ms", "500"]))
-            words = words + some.choice(([], ["--overtake-ms", "0"], ["--overtake-ms", "1000"]))
+            words = words + some.choice(([], ["--overtake-ms", "0"], ["--overtake-ms", "1000"])) + some.choice(([], ["--group"]))
             data = wire.pcap(runs.disturbed(some, records), nanoseconds=True)
             self.judge("rough", number, data, words, model.audited(data, model.rules_of(words)[0]))
 
@@ -161,6 +163,7 @@ def missed(sweep, sorts):
     types = [wire.REQUEST, wire.ONEWAY, wire.NOTIFICATION, wire.RESPONSE, wire.NOTIFICATION | wire.TP]
     kinds = [kind for kind in model.KINDS if kind not in sweep.kinds]
     kinds += [words.strip() for words in UNJUDGED if words.split(" ")[0] not in sweep.unjudged]
+    kinds += [] if sweep.groups else ["a group"]
     return kinds + [f"type {kind:02x} in a calm world" for kind in types if kind not in sweep.calm_types]
 
 

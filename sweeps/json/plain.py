@@ -122,6 +122,8 @@ def audited(line):
     words = line["kind"].replace("-", " ")
     if "count" in line:
         return f"{words} {line['count']}"
+    if "more" in line:
+        return f"{words} {absent(line['service'])}.{absent(line['method'])} {line['from']} {line['to']} {line['more']} more"
     head = f"{frame(line)}{time(line)} {line['datagram']} {line['from']} {line['to']}"
     return f"{head} {words} {FOUND[line['kind']](line)}".rstrip()
 

@@ -121,6 +121,7 @@ MORE = [
     "recording --frames --endpoints --whole --types examples/types.toml examples/route.pcap",
     "recording --endpoints --whole examples/cut.pcap",
     "audit --frames examples/audit.pcap",
+    "audit --ports 30509 --group examples/taps/one.pcapng",
     "run --lines examples/runs/two.toml examples/runs/reboot.txt",
     "run --lines examples/runs/two.toml examples/runs/old_answer.txt",
 ]

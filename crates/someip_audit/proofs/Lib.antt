@@ -5,3 +5,4 @@ pub mod ItemLemmas
 pub mod ExpiryLemmas
 pub mod NextLemmas
 pub mod LearningLemmas
+pub mod about_groups

@@ -8,3 +8,4 @@ pub mod MessageShown
 pub mod AnyShown
 pub mod Learning
 pub mod Audits
+pub mod groups

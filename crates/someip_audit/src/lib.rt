@@ -4,6 +4,7 @@
 //!   [`WatchRules`]: which datagrams are looked at;
 //! - [`Learner`]: the endpoints that a recording names, and which datagrams are looked at for them, where nothing
 //!   is audited;
+//! - [`groups`]: findings of one group, of which the first three are told;
 //! - [`Finding`]: what a datagram shows; [`FellDue`]: what falls due between datagrams;
 //! - [`laws`]: the definitions behind the contracts, by example.
 #![tactic(auto)]
@@ -17,6 +18,7 @@ mod entries;
 mod expiry;
 mod fell_due;
 mod finding;
+pub mod groups;
 pub mod laws;
 mod learner;
 mod messages;

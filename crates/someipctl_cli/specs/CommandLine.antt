@@ -96,7 +96,7 @@ with_packets command = with_rule (with_rule (with_rule command (valued (codes "i
 
 -- the command with the options that number and choose the lines of findings
 abbrev pub with_findings : App → App
-with_findings command = with_rule (with_rule command (flag (codes "frames"))) (valued (codes "service"))
+with_findings command = with_rule (with_rule (with_rule command (flag (codes "frames"))) (flag (codes "group"))) (valued (codes "service"))
 
 -- the command with the options that say what stands before each line
 abbrev pub with_heads : App → App
@@ -115,8 +115,8 @@ recording_usage = (with_rule recording_options (required_many (codes "file"))).t
 abbrev pub chart_usage : Shape
 chart_usage = (with_inputs (new_app (codes "chart"))).top
 
--- `audit [--ports PORTS] [--answer-ms N] [--settle-ms N] [--overtake-ms N] [--sessions HOW] [--frames] [--service SERVICES]
--- [--json] [--address A] [--client C] [--from TIME] [--until TIME] [--learned] [--interface N] [--vlan ID] [--dedup MS] FILE..`
+-- `audit [--ports PORTS] [--answer-ms N] [--settle-ms N] [--overtake-ms N] [--sessions HOW] [--group] [--frames]
+-- [--service SERVICES] [--json] [--address A] [--client C] [--from TIME] [--until TIME] [--learned] [--interface N] [--vlan ID] [--dedup MS] FILE..`
 abbrev pub with_settings : App → App
 with_settings app =
     with_rule (with_rule (with_rule (with_rule app (valued (codes "answer-ms"))) (valued (codes "settle-ms"))) (valued (codes "overtake-ms"))) (valued (codes "sessions"))
@@ -199,6 +199,7 @@ pub record AuditRequest : Type 0 where
   pub choice : ChoiceRequest
   pub ports : Option Text
   pub frames : Bool
+  pub group : Bool
   pub json : Bool
   pub service : Option Text
   pub settings : SettingRequest
@@ -265,6 +266,7 @@ asked_by_audit_options o = record {
   choice = asked_by_choice o.choice;
   ports = text_at o.ports;
   frames = o.frames;
+  group = o.group;
   json = o.json;
   service = text_at o.service;
   settings = asked_by_settings o.settings;
@@ -380,12 +382,13 @@ no_settings = setting_options_of None None None None
 abbrev pub setting_options_by : (Text → Option Text) → SettingRequest
 setting_options_by value = setting_options_of (value (codes "answer-ms")) (value (codes "settle-ms")) (value (codes "overtake-ms")) (value (codes "sessions"))
 
-abbrev pub audit_options_of : PacketRequest → ChoiceRequest → (ports frames json service : Option Text) → SettingRequest → AuditRequest
-audit_options_of packets choice ports frames json service settings = record {
+abbrev pub audit_options_of : PacketRequest → ChoiceRequest → (ports frames group json service : Option Text) → SettingRequest → AuditRequest
+audit_options_of packets choice ports frames group json service settings = record {
   packets = packets;
   choice = choice;
   ports = ports;
   frames = is_on frames;
+  group = is_on group;
   json = is_on json;
   service = service;
   settings = settings;
@@ -394,7 +397,7 @@ audit_options_of packets choice ports frames json service settings = record {
 abbrev pub audit_options_by : (Text → Option Text) → AuditRequest
 audit_options_by value =
     audit_options_of (packet_options_by value) (choice_options_by value)
-    (value (codes "ports")) (value (codes "frames")) (value (codes "json")) (value (codes "service")) (setting_options_by value)
+    (value (codes "ports")) (value (codes "frames")) (value (codes "group")) (value (codes "json")) (value (codes "service")) (setting_options_by value)
 
 -- what `audit` asks for
 abbrev pub asked_by_audit : (Text → Option Text) → (Text → List Text) → Option Request

@@ -142,6 +142,8 @@ pub struct AuditOptions<'w> {
     pub ports: Option<&'w str>,
     /// Whether each line is to begin with the number of its packet.
     pub frames: bool,
+    /// Whether only the first three findings of a group are to be shown.
+    pub group: bool,
     /// Whether each line is to be a JSON object.
     pub json: bool,
     /// The text of the services whose findings are told. None tells all.
@@ -454,6 +456,7 @@ fn audit_options_matched<'w>(matches: &ArgMatches<'w>) -> AuditOptions<'w>
         choice: choice_matched(matches),
         ports: matches.get_str("ports"),
         frames: is_given(matches, "frames"),
+        group: is_given(matches, "group"),
         json: is_given(matches, "json"),
         service: matches.get_str("service"),
         settings: settings_matched(matches),

@@ -244,7 +244,13 @@ fn add_findings<'d>(
         "SERVICES",
         "Prints only findings of one of these services",
     );
-    taking(taking(command, frames), service)
+    let group = flag(
+        alloc,
+        "group",
+        "Prints the first three findings of one kind, service, method, sender and receiver, and counts the others",
+    );
+    let first = taking(command, frames);
+    taking(taking(first, group), service)
 }
 
 /// The command with the two files of a run as its further arguments.

@@ -104,6 +104,7 @@ fn audit_wanted<'p, R: Files + Print + Eprint + Input + AllocGlobal>(
         wanted,
         form: line_form(options.json),
         frames: options.frames,
+        group: options.group,
     };
     let mut sources = open_sources(rt, paths)?;
     let mut writer = io::writer(rt);

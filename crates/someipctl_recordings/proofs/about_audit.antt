@@ -1,4 +1,5 @@
 pub mod PutsLemmas
+pub mod ShownLemmas
 pub mod TallyLemmas
 pub mod StepLemmas
 pub mod SeenLemmas

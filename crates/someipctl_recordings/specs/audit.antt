@@ -12,4 +12,5 @@ pub mod Scenes
 pub mod Runs
 pub mod Settings
 pub mod Unjudged
+pub mod Groupings
 pub mod TextScenes

@@ -4,6 +4,8 @@ mod asked;
 mod auditing;
 mod audits;
 mod fields;
+mod group;
+mod groups;
 mod kind;
 pub mod laws;
 mod lines;

@@ -1,10 +1,8 @@
 -- The audit of a recording so far.
 use Rattle.std.proofs.Common.{◌≡◌, ℕ, ◌+◌, ◌<◌, ◌≤◌, List, [], ◌∷◌, ◌++◌, map, length, Option, Some, None, Result, Ok, Err, refl, sym, ap, subst, ◌∙◌, append_assoc, inl, inr, arith, suc, nat_lt, false, lt-ltb, length-append}
-use Rattle.std.specs.List.{flat_map}
 use Rattle.std.specs.Option.{option_to_list}
 use Rattle.std.specs.Result.{IfOk}
 use Rattle.std.proofs.lemmas.List.{append-nil}
-use Rattle.std.proofs.lemmas.Grind.{flat_map-append}
 use Rattle.recording.specs.declared.RecordingError.{RecordingError}
 use Rattle.recording.specs.Captured.{RecordValue}
 use Rattle.recording_packets.specs.Intake.{ArrivalValue, IntakeValue, after_packet, after_packets, arrivals, arrived, left_out_at, nothing_taken}
@@ -13,6 +11,7 @@ use Rattle.someipctl_recordings.specs.declared.recordings.FileFault.{FileFault}
 use Rattle.recording.specs.Readers.{CanFollow, ReaderValue, to_come}
 use Rattle.recording.specs.Records.{Item}
 use Rattle.someip_audit.specs.declared.FellDue.{FellDue}
+use Rattle.someip_audit.specs.groups.GroupTables.{Groups}
 use Rattle.someip_audit.specs.Audits.{AuditState, Hears, Report, Seen, fell, seen_messages}
 use Rattle.someipctl_io.specs.Outcomes.{fault_outcome}
 use Rattle.someipctl_io.specs.Sending.{Sends, Stops}
@@ -30,13 +29,15 @@ use Rattle.someipctl_recordings.specs.declared.audit.tally.Tally.{Tally}
 use Rattle.someipctl_recordings.specs.audit.Scenes.{view_seen}
 use Rattle.someipctl_recordings.specs.audit.AskedAudits.{AskedAudit}
 use Rattle.someipctl_recordings.specs.audit.AuditResult.{BeginsAudit, IsAuditText, ShowsAudit, has_findings}
-use Rattle.someipctl_recordings.specs.audit.AuditText.{Looked, audit_text, closing_text, fell_line, report_line, report_lines, told_of}
-use Rattle.someipctl_recordings.specs.audit.Runs.{EndsWith, PutsAudit, PutsDatagram, PutsEnd, PutsLast, PutsNext, PutsRecord, StopsDatagram, StopsEnd, StopsLast, StopsNext, StopsRecord}
+use Rattle.someipctl_recordings.specs.audit.AuditText.{Looked, audit_text, closing_text, grouped_all, line_of_report, report_lines, shown_lines, told_of}
+use Rattle.someipctl_recordings.specs.audit.Groupings.{groups_begun}
+use Rattle.someipctl_recordings.specs.audit.Runs.{EndsWith, IsNothing, PutsAudit, PutsDatagram, PutsEnd, PutsLast, PutsNext, PutsRecord, StopsDatagram, StopsEnd, StopsLast, StopsNext, StopsRecord}
 use Rattle.someipctl_recordings.specs.audit.SeenIn.{Tells, TellsSome, arrivals_in, audit_at, ended_with, looked_more, looked_of, none_looked, seen_from, seen_in, seen_next}
-use Rattle.someipctl_recordings.specs.audit.Steps.{CountsMore, PutsSeen, StopsSeen, fell_told}
+use Rattle.someipctl_recordings.specs.audit.Steps.{CountsMore, PutsSeen, StopsSeen, fell_told, lines_at}
 use Rattle.someipctl_recordings.specs.audit.Tallies.{Counts}
 use Rattle.someipctl_recordings.proofs.about_audit.StepLemmas.{counts_none, stops_here}
-use Rattle.someipctl_recordings.proofs.about_audit.SeenLemmas.{Goes, fell_told_in, heard_same, heard_told, latest, latest-append, looked_ended, looked_first, looked_moved, looked_plus, seen_more, some_heard, some_same, some_step, tells_nothing, tells_step, time_now, told_on}
+use Rattle.someipctl_recordings.proofs.about_audit.ShownLemmas.{grouped_all-append, shown_lines-append}
+use Rattle.someipctl_recordings.proofs.about_audit.SeenLemmas.{Goes, fell_same, fell_told_in, heard_same, heard_told, latest, latest-append, looked_ended, looked_first, looked_moved, looked_plus, seen_more, some_heard, some_same, some_step, tells_nothing, tells_step, time_now, told_on}
 
 pub if_ok_three : {T E : Type 0} (r : Result T E) (P Q R S : T → Type 0) → ((x : T) → P x → Q x → R x → S x) → IfOk r P → IfOk r Q → IfOk r R → IfOk r S
 if_ok_three (Ok x) P Q R S f p q t = f x p q t
@@ -64,26 +65,28 @@ pub record IsAudited (asked : AskedAudit) (inputs ares : List (Option (List ℕ)
       → Goes asked (seen_in (came asked done) ++ others) (reports ++ rest) (looked_plus looked (looked_of asked gone.now audit others rest t))
   pub some : (others : List Seen) (rest : List Report) → TellsSome asked gone.now audit others rest → TellsSome asked 0 None (seen_in (came asked done) ++ others) (reports ++ rest)
   pub counts : (others : List ArrivalValue) → Counts gone.tally (told_of asked (came asked done ++ others) reports) looked
+  pub groups : (others : List ArrivalValue) → gone.tally.groups ≡ grouped_all (groups_begun asked.group) (told_of asked (came asked done ++ others) reports)
   pub took : s ≡ taken asked done
   pub none : fault_among done ≡ None
 
 pub audited_begin : (asked : AskedAudit) (inputs : List (Option (List ℕ))) (r : ReaderValue) (before : Option (List ℕ)) (held : List ℕ) (audit : Option AuditState) (gone : Gone) (s : IntakeValue)
-    → r ≡ begin → held ≡ [] → audit ≡ None → Counts gone.tally [] none_looked → gone.datagrams ≡ 0 → gone.now ≡ 0 → s ≡ (nothing_taken asked.wanted.packets)
+    → r ≡ begin → held ≡ [] → audit ≡ None → IsNothing asked.group gone → s ≡ (nothing_taken asked.wanted.packets)
     → IsAudited asked inputs inputs 0 r before before held audit gone s
-audited_begin asked inputs r before held audit gone s is empty none counts number moment nothing = record {
+audited_begin asked inputs r before held audit gone s is empty none begun nothing = record {
   done = [];
   reports = [];
   looked = none_looked;
   reads = reads_begin inputs r is;
   sends = λ others. subst (λ (h : List ℕ). Sends before [] before h []) (sym empty) (Sends-nil before []);
-  number = number;
-  moment = moment;
-  goes = subst (λ n. (others : List Seen) (rest : List Report) (t : Tells asked n audit others rest) → Goes asked others rest (looked_plus none_looked (looked_of asked n audit others rest t))) (sym moment)
+  number = begun.datagrams;
+  moment = begun.now;
+  goes = subst (λ n. (others : List Seen) (rest : List Report) (t : Tells asked n audit others rest) → Goes asked others rest (looked_plus none_looked (looked_of asked n audit others rest t))) (sym begun.now)
       (subst (λ a. (others : List Seen) (rest : List Report) (t : Tells asked 0 a others rest) → Goes asked others rest (looked_plus none_looked (looked_of asked 0 a others rest t))) (sym none)
       (λ others rest t. (t, sym (looked_first (looked_of asked 0 None others rest t)))));
-  some = subst (λ n. (others : List Seen) (rest : List Report) → TellsSome asked n audit others rest → TellsSome asked 0 None others rest) (sym moment)
+  some = subst (λ n. (others : List Seen) (rest : List Report) → TellsSome asked n audit others rest → TellsSome asked 0 None others rest) (sym begun.now)
       (subst (λ a. (others : List Seen) (rest : List Report) → TellsSome asked 0 a others rest → TellsSome asked 0 None others rest) (sym none) (λ others rest t. t));
-  counts = λ others. counts;
+  counts = λ others. begun.counts;
+  groups = λ others. begun.groups;
   took = nothing;
   none = refl;
 }
@@ -104,6 +107,7 @@ audited_as asked inputs ares next k m r new before after later held waits audit 
   goes = subst (λ (l : List ArrivalValue). (others : List Seen) (rest : List Report) (t : Tells asked gone.now audit others rest) → Goes asked (seen_in l ++ others) (is.reports ++ rest) (looked_plus is.looked (looked_of asked gone.now audit others rest t))) (sym same) is.goes;
   some = subst (λ (l : List ArrivalValue). (others : List Seen) (rest : List Report) → TellsSome asked gone.now audit others rest → TellsSome asked 0 None (seen_in l ++ others) (is.reports ++ rest)) (sym same) is.some;
   counts = λ others. subst (λ (l : List ArrivalValue). Counts gone.tally (told_of asked (l ++ others) is.reports) is.looked) (sym same) (is.counts others);
+  groups = λ others. is.groups others ∙ ap (λ (l : List ArrivalValue). grouped_all (groups_begun asked.group) (told_of asked (l ++ others) is.reports)) (sym same);
   took = takes;
   none = none;
 }
@@ -130,7 +134,7 @@ audited_next asked inputs ares next k r new fresh now before after later held wa
 pub record IsLast (asked : AskedAudit) (now : ℕ) (audit ended : Option AuditState) (tally later : Tally) (a : Option (List ℕ)) (held : List ℕ) (b : Option (List ℕ)) (waits : List ℕ) : Type 0 where
   pub told : List FellDue
   pub ends : EndsWith now audit told ended
-  pub sends : Sends a held b waits (flat_map (fell_line asked) told)
+  pub sends : Sends a held b waits (lines_at asked None tally.groups (map fell told))
   pub counts : CountsMore tally later (fell_told asked told)
 
 pub last_ends : (asked : AskedAudit) (now : ℕ) (audit ended : Option AuditState) (tally later : Tally) (a : Option (List ℕ)) (held : List ℕ) (b : Option (List ℕ)) (waits : List ℕ) → PutsLast asked now audit ended tally later a held b waits
@@ -150,37 +154,40 @@ has_some n (report ∷ reports) is = ap (nat_lt 0) is ∙ lt-ltb 0 (suc (length 
 
 pub end_puts : (asked : AskedAudit) (gone : Gone) (audit ended : Option AuditState) (later : Tally) (reports : List Report) (looked : Looked) (a : Option (List ℕ)) (held : List ℕ) (b : Option (List ℕ)) (waits : List ℕ) (c : Option (List ℕ)) (new : List ℕ) (shown : ShownRecording)
     → PutsLast asked gone.now audit ended gone.tally later a held b waits → Counts gone.tally reports looked
-    → ((all : List Report) → Counts later all looked → Sends b waits c new (closing_text asked.form (ended_with ended looked) all)) → shown.outcome ≡ fault_outcome (nat_lt 0 later.findings) → shown.is_full ≡ false
+    → ((all : List Report) → Counts later all looked → Sends b waits c new (closing_text asked.form (ended_with ended looked) later.groups all)) → shown.outcome ≡ fault_outcome (nat_lt 0 later.findings) → shown.is_full ≡ false
     → PutsEnd asked gone audit reports looked a held c new shown
 end_puts asked gone audit ended later reports looked a held b waits c new shown puts counts summary outcome full =
     let last = last_ends asked gone.now audit ended gone.tally later a held b waits puts in
-    let all = last.counts reports looked counts in
+    let all = last.counts.0 reports looked counts in
+    let closing = λ g. closing_text asked.form (ended_with ended looked) g (reports ++ fell_told asked last.told) in
     record {
       told = last.told;
       ended = ended;
       ends = last.ends;
-      sends = Sends-trans a b c held waits new (flat_map (fell_line asked) last.told) (closing_text asked.form (ended_with ended looked) (reports ++ fell_told asked last.told)) last.sends (summary (reports ++ fell_told asked last.told) all);
+      sends = Sends-trans a b c held waits new (lines_at asked None gone.tally.groups (map fell last.told)) (closing (grouped_all gone.tally.groups (fell_told asked last.told))) last.sends
+          (subst (λ g. Sends b waits c new (closing g)) last.counts.1 (summary (reports ++ fell_told asked last.told) all));
       outcome = outcome ∙ ap fault_outcome (has_some later.findings (reports ++ fell_told asked last.told) all.findings);
       full = full;
     }
 
 pub end_stops : (asked : AskedAudit) (gone : Gone) (audit ended : Option AuditState) (later : Tally) (reports : List Report) (looked : Looked) (a : Option (List ℕ)) (held : List ℕ) (b : Option (List ℕ)) (waits : List ℕ) (c : Option (List ℕ))
     → PutsLast asked gone.now audit ended gone.tally later a held b waits → Counts gone.tally reports looked
-    → ((all : List Report) → Counts later all looked → Stops b waits c (closing_text asked.form (ended_with ended looked) all)) → StopsEnd asked gone audit reports looked a held c
+    → ((all : List Report) → Counts later all looked → Stops b waits c (closing_text asked.form (ended_with ended looked) later.groups all)) → StopsEnd asked gone audit reports looked a held c
 end_stops asked gone audit ended later reports looked a held b waits c puts counts summary =
     let last = last_ends asked gone.now audit ended gone.tally later a held b waits puts in
+    let closing = λ g. closing_text asked.form (ended_with ended looked) g (reports ++ fell_told asked last.told) in
     inr (record {
       told = last.told;
       ended = ended;
       ends = last.ends;
-      stops = Stops-after a b c held waits (flat_map (fell_line asked) last.told) (closing_text asked.form (ended_with ended looked) (reports ++ fell_told asked last.told)) last.sends
-          (summary (reports ++ fell_told asked last.told) (last.counts reports looked counts));
+      stops = Stops-after a b c held waits (lines_at asked None gone.tally.groups (map fell last.told)) (closing (grouped_all gone.tally.groups (fell_told asked last.told))) last.sends
+          (subst (λ g. Stops b waits c (closing g)) last.counts.1 (summary (reports ++ fell_told asked last.told) (last.counts.0 reports looked counts)));
     })
 
 -- ---- a datagram
 
-pub begin_stops : (asked : AskedAudit) (s : SeenDatagram) (audit : Option AuditState) (a : Option (List ℕ)) (held : List ℕ) → StopsNext asked s audit a held a
-begin_stops asked s audit a held = record { told = []; some = inl ([], tt, refl); stops = stops_here a held a held [] (Sends-nil a held) }
+pub begin_stops : (asked : AskedAudit) (s : SeenDatagram) (audit : Option AuditState) (groups : Option Groups) (a : Option (List ℕ)) (held : List ℕ) → StopsNext asked s audit groups a held a
+begin_stops asked s audit groups a held = record { told = []; some = inl ([], tt, refl); stops = stops_here a held a held [] (Sends-nil a held) }
 
 pub next_puts : (asked : AskedAudit) (s : SeenDatagram) (d : ArrivalValue) (before after : Option AuditState) (gone : Gone) (tally : Tally) (a : Option (List ℕ)) (held : List ℕ) (b : Option (List ℕ)) (waits : List ℕ)
     → view_seen s ≡ seen_next gone.datagrams gone.now d → s.time ≡ d.datagram.time → PutsNext asked s before after gone.tally tally a held b waits
@@ -195,10 +202,10 @@ next_puts asked s d before after gone tally a held b waits seen time puts = reco
 }
 
 pub next_stops : (asked : AskedAudit) (s : SeenDatagram) (d : ArrivalValue) (before : Option AuditState) (gone : Gone) (a : Option (List ℕ)) (held : List ℕ) (b : Option (List ℕ))
-    → view_seen s ≡ seen_next gone.datagrams gone.now d → s.time ≡ d.datagram.time → StopsNext asked s before a held b → StopsDatagram asked d before gone a held b
+    → view_seen s ≡ seen_next gone.datagrams gone.now d → s.time ≡ d.datagram.time → StopsNext asked s before gone.tally.groups a held b → StopsDatagram asked d before gone a held b
 next_stops asked s d before gone a held b seen time stops =
-    subst (λ x. StopsSeen asked d.datagram.time x (audit_at asked before x) a held b) seen
-    (subst (λ t. StopsSeen asked t (view_seen s) (audit_at asked before (view_seen s)) a held b) time stops)
+    subst (λ x. StopsSeen asked d.datagram.time x (audit_at asked before x) gone.tally.groups a held b) seen
+    (subst (λ t. StopsSeen asked t (view_seen s) (audit_at asked before (view_seen s)) gone.tally.groups a held b) time stops)
 
 -- it is gone over
 goes_more : (asked : AskedAudit) (last : ℕ) (audit : Option AuditState) (seens : List Seen) (reports : List Report) (looked : Looked) (seen : Seen) (state : AuditState) (first : List Report)
@@ -228,8 +235,20 @@ one_longer : (n : ℕ) (ds : List ArrivalValue) (d : ArrivalValue) → n ≡ len
 one_longer n ds d is = ap (λ k. k + 1) is ∙ sym (length-append ds (d ∷ []))
 
 -- the text of what was told before, and of what is told of the datagram
-lines_on : (asked : AskedAudit) (all : List ArrivalValue) (reports more : List Report) → report_lines asked all reports ++ report_lines asked all more ≡ report_lines asked all (reports ++ more)
-lines_on asked all reports more = sym (flat_map-append (report_line asked all) reports more)
+whole_lines : (asked : AskedAudit) (all : List ArrivalValue) (groups : Option Groups) (reports more : List Report) → groups ≡ grouped_all (groups_begun asked.group) (told_of asked all reports)
+    → report_lines asked all reports ++ shown_lines (line_of_report asked all) groups (told_of asked all more) ≡ report_lines asked all (reports ++ more)
+whole_lines asked all groups reports more is =
+    ap (λ g. report_lines asked all reports ++ shown_lines (line_of_report asked all) g (told_of asked all more)) is
+    ∙ sym (shown_lines-append (line_of_report asked all) (groups_begun asked.group) (told_of asked all reports) (told_of asked all more))
+    ∙ ap (shown_lines (line_of_report asked all) (groups_begun asked.group)) (sym (told_on asked all reports more))
+
+-- what came of each group before, and of the datagram
+whole_groups : (asked : AskedAudit) (all : List ArrivalValue) (groups later : Option Groups) (reports more : List Report) → groups ≡ grouped_all (groups_begun asked.group) (told_of asked all reports)
+    → later ≡ grouped_all groups (told_of asked all more) → later ≡ grouped_all (groups_begun asked.group) (told_of asked all (reports ++ more))
+whole_groups asked all groups later reports more is then =
+    then ∙ ap (λ g. grouped_all g (told_of asked all more)) is
+    ∙ sym (grouped_all-append (groups_begun asked.group) (told_of asked all reports) (told_of asked all more))
+    ∙ ap (grouped_all (groups_begun asked.group)) (sym (told_on asked all reports more))
 
 -- the datagrams after one more record
 came_more : (asked : AskedAudit) (done : List Item) (s : IntakeValue) (found : RecordValue) (given : Option ArrivalValue) → s ≡ taken asked done → arrived asked.wanted.packets s found ≡ given
@@ -264,11 +283,12 @@ audited_datagram asked inputs ares step_to k r new now before after later last h
       sends = λ others.
           let whole : ds ++ d ∷ others ≡ came asked (is.done ++ Ok found ∷ []) ++ others = sym (append_assoc ds (d ∷ []) others) ∙ ap (λ (l : List ArrivalValue). l ++ others) (sym all) in
           subst (λ (l : List ArrivalValue). Sends before [] last rest (report_lines asked l (is.reports ++ told))) whole
-          (subst (Sends before [] last rest) (lines_on asked (ds ++ d ∷ others) is.reports told)
-          (Sends-trans before later last [] waits rest (report_lines asked (ds ++ d ∷ others) is.reports) (report_lines asked (ds ++ d ∷ others) told)
+          (subst (Sends before [] last rest) (whole_lines asked (ds ++ d ∷ others) gone.tally.groups is.reports told (is.groups (d ∷ others)))
+          (Sends-trans before later last [] waits rest (report_lines asked (ds ++ d ∷ others) is.reports)
+          (shown_lines (line_of_report asked (ds ++ d ∷ others)) gone.tally.groups (told_of asked (ds ++ d ∷ others) told))
           (Sends-flush before after later [] held waits (report_lines asked (ds ++ d ∷ others) is.reports) (is.sends (d ∷ others)) sends)
           (subst (Sends later waits last rest)
-          (heard_same asked (ds ++ d ∷ others) d.datagram.time seen (audit_at asked audit seen) puts.state told (time_now gone.datagrams ds d others is.number) hears) puts.puts.sends)));
+          (heard_same asked (ds ++ d ∷ others) d.datagram.time seen (audit_at asked audit seen) puts.state gone.tally.groups told (time_now gone.datagrams ds d others is.number) hears) puts.puts.sends)));
       number = puts.number ∙ one_longer gone.datagrams ds d is.number ∙ ap length (sym all);
       moment = puts.moment ∙ ap (λ n. moment_of n d.datagram.time) is.moment ∙ sym (latest-append 0 ds d) ∙ ap (latest 0) (sym all);
       goes = moved (is.reports ++ told) (looked_more (seen_messages seen hears.between) is.looked) seens puts.is puts.moment (goes_more asked gone.now audit (seen_in ds) is.reports is.looked seen puts.state told hears is.goes);
@@ -281,6 +301,12 @@ audited_datagram asked inputs ares step_to k r new now before after later last h
           (ap (λ (l : List Report). before_it ++ l) (heard_told asked (ds ++ d ∷ others) d.datagram.time seen (audit_at asked audit seen) puts.state told (time_now gone.datagrams ds d others is.number) hears)
           ∙ sym (told_on asked (ds ++ d ∷ others) is.reports told))
           (puts.puts.counts before_it is.looked (is.counts (d ∷ others))));
+      groups = λ others.
+          let whole : ds ++ d ∷ others ≡ came asked (is.done ++ Ok found ∷ []) ++ others = sym (append_assoc ds (d ∷ []) others) ∙ ap (λ (l : List ArrivalValue). l ++ others) (sym all) in
+          subst (λ (l : List ArrivalValue). more.tally.groups ≡ grouped_all (groups_begun asked.group) (told_of asked l (is.reports ++ told))) whole
+          (whole_groups asked (ds ++ d ∷ others) gone.tally.groups more.tally.groups is.reports told (is.groups (d ∷ others))
+          (puts.puts.groups ∙ ap (grouped_all gone.tally.groups)
+          (heard_told asked (ds ++ d ∷ others) d.datagram.time seen (audit_at asked audit seen) puts.state told (time_now gone.datagrams ds d others is.number) hears)));
       took = took_more asked is.done s found is.took;
       none = fault-append is.done (Ok found ∷ []) is.none;
     }
@@ -371,11 +397,12 @@ stops_datagram asked inputs ares step_to k r new now before after later last hel
     begins_some asked inputs before last f.files f.left (ds ++ d ∷ more) all (is.reports ++ stops.told)
     (subst (λ (l : List Seen). TellsSome asked 0 None l (is.reports ++ stops.told)) (sym (seen_more gone ds (d ∷ more) is.number is.moment))
     (is.some (seen ∷ others) stops.told (some_heard asked gone.now audit seen others stops.told stops.some)))
-    (subst (Stops before [] last) (lines_on asked (ds ++ d ∷ more) is.reports stops.told)
-    (Stops-after before later last [] waits (report_lines asked (ds ++ d ∷ more) is.reports) (report_lines asked (ds ++ d ∷ more) stops.told)
+    (subst (Stops before [] last) (whole_lines asked (ds ++ d ∷ more) gone.tally.groups is.reports stops.told (is.groups (d ∷ more)))
+    (Stops-after before later last [] waits (report_lines asked (ds ++ d ∷ more) is.reports)
+    (shown_lines (line_of_report asked (ds ++ d ∷ more)) gone.tally.groups (told_of asked (ds ++ d ∷ more) stops.told))
     (Sends-flush before after later [] held waits (report_lines asked (ds ++ d ∷ more) is.reports) (is.sends (d ∷ more)) sends)
     (subst (Stops later waits last)
-    (some_same asked (ds ++ d ∷ more) d.datagram.time seen (audit_at asked audit seen) stops.told (time_now gone.datagrams ds d more is.number) stops.some) stops.stops)))
+    (some_same asked (ds ++ d ∷ more) d.datagram.time seen (audit_at asked audit seen) gone.tally.groups stops.told (time_now gone.datagrams ds d more is.number) stops.some) stops.stops)))
 
 pub stops_record : (asked : AskedAudit) (inputs ares step_to : List (Option (List ℕ))) (k : ℕ) (r new : ReaderValue) (now before after later last : Option (List ℕ)) (held waits : List ℕ) (audit : Option AuditState) (gone : Gone) (s : IntakeValue) (found : RecordValue)
     → IsAudited asked inputs ares k r before after held audit gone s → k < length ares → IsStep ares step_to k now → Comes r new (left_at ares k) now (Ok found ∷ []) → Sends after held later waits []
@@ -396,10 +423,6 @@ record_stops asked (Some arrival) audit gone a held = record { told = []; some =
 record_stops asked None audit gone a held = stops_here a held a held [] (Sends-nil a held)
 
 -- ---- the whole
-
-fell_text : (asked : AskedAudit) (all : List ArrivalValue) (told : List FellDue) → flat_map (fell_line asked) told ≡ report_lines asked all (map fell told)
-fell_text asked all [] = refl
-fell_text asked all (one ∷ told) = ap (λ (t : List ℕ). fell_line asked one ++ t) (fell_text asked all told)
 
 -- what fell due at the end
 ends_tells : (asked : AskedAudit) (now : ℕ) (audit ended : Option AuditState) (told : List FellDue) → EndsWith now audit told ended
@@ -422,15 +445,18 @@ told_end asked ds reports told =
     ap (λ (l : List Report). told_of asked ds reports ++ l) (fell_told_in asked ds told) ∙ sym (told_on asked ds reports (map fell told))
 
 -- the text before the summary, and with it
-text_end : (asked : AskedAudit) (ds : List ArrivalValue) (reports : List Report) (told : List FellDue) (looked : Looked)
-    → report_lines asked ds reports ++ (flat_map (fell_line asked) told ++ closing_text asked.form looked (told_of asked ds reports ++ fell_told asked told))
+text_end : (asked : AskedAudit) (ds : List ArrivalValue) (groups : Option Groups) (reports : List Report) (told : List FellDue) (looked : Looked) → groups ≡ grouped_all (groups_begun asked.group) (told_of asked ds reports)
+    → report_lines asked ds reports ++ (lines_at asked None groups (map fell told) ++ closing_text asked.form looked (grouped_all groups (fell_told asked told)) (told_of asked ds reports ++ fell_told asked told))
     ≡ audit_text asked ds (reports ++ map fell told) looked
-text_end asked ds reports told looked =
-    let summary = closing_text asked.form looked (told_of asked ds (reports ++ map fell told)) in
-    ap (λ (l : List Report). report_lines asked ds reports ++ (flat_map (fell_line asked) told ++ closing_text asked.form looked l)) (told_end asked ds reports told)
-    ∙ sym (append_assoc (report_lines asked ds reports) (flat_map (fell_line asked) told) summary)
-    ∙ ap (λ (t : List ℕ). (report_lines asked ds reports ++ t) ++ summary) (fell_text asked ds told)
-    ∙ ap (λ (t : List ℕ). t ++ summary) (lines_on asked ds reports (map fell told))
+text_end asked ds groups reports told looked is =
+    let all = told_of asked ds (reports ++ map fell told) in
+    let end = grouped_all groups (fell_told asked told) in
+    let groups_end : end ≡ grouped_all (groups_begun asked.group) all = whole_groups asked ds groups end reports (map fell told) is (ap (grouped_all groups) (fell_told_in asked ds told)) in
+    ap (λ (l : List Report). report_lines asked ds reports ++ (lines_at asked None groups (map fell told) ++ closing_text asked.form looked end l)) (told_end asked ds reports told)
+    ∙ sym (append_assoc (report_lines asked ds reports) (lines_at asked None groups (map fell told)) (closing_text asked.form looked end all))
+    ∙ ap (λ (t : List ℕ). (report_lines asked ds reports ++ t) ++ closing_text asked.form looked end all) (fell_same asked ds None groups told)
+    ∙ ap (λ (t : List ℕ). t ++ closing_text asked.form looked end all) (whole_lines asked ds groups reports (map fell told) is)
+    ∙ ap (λ g. report_lines asked ds (reports ++ map fell told) ++ closing_text asked.form looked g all) groups_end
 
 -- the datagrams of files of which no more come
 whole_datagrams : (asked : AskedAudit) (files : List (List ℕ)) (done items : List Item) → items_of_files files ≡ done ++ items → ((q : IntakeValue) → arrivals asked.wanted.packets q items ≡ [])
@@ -447,6 +473,11 @@ pub counts_now : (asked : AskedAudit) (inputs ares : List (Option (List ℕ))) (
     (is : IsAudited asked inputs ares k r before after held audit gone s) → Counts gone.tally (told_now asked is.done is.reports) is.looked
 counts_now asked inputs ares k r before after held audit gone s is =
     subst (λ (l : List ArrivalValue). Counts gone.tally (told_of asked l is.reports) is.looked) (append-nil (came asked is.done)) (is.counts [])
+
+groups_now : (asked : AskedAudit) (inputs ares : List (Option (List ℕ))) (k : ℕ) (r : ReaderValue) (before after : Option (List ℕ)) (held : List ℕ) (audit : Option AuditState) (gone : Gone) (s : IntakeValue)
+    (is : IsAudited asked inputs ares k r before after held audit gone s) → gone.tally.groups ≡ grouped_all (groups_begun asked.group) (told_now asked is.done is.reports)
+groups_now asked inputs ares k r before after held audit gone s is =
+    is.groups [] ∙ ap (λ (l : List ArrivalValue). grouped_all (groups_begun asked.group) (told_of asked l is.reports)) (append-nil (came asked is.done))
 
 -- what was told before the end
 sent_before : (asked : AskedAudit) (inputs ares : List (Option (List ℕ))) (k : ℕ) (r : ReaderValue) (before after later : Option (List ℕ)) (held waits : List ℕ) (audit : Option AuditState) (gone : Gone) (s : IntakeValue)
@@ -473,8 +504,8 @@ audit_whole asked inputs ares k r before after later last held waits rest audit 
       is.reports ++ map fell end.told,
       goes.0,
       subst (λ l. Sends before [] last rest (audit_text asked ds (is.reports ++ map fell end.told) l)) (sym goes.1)
-          (subst (Sends before [] last rest) (text_end asked ds is.reports end.told (ended_with end.ended is.looked))
-          (Sends-trans before later last [] waits rest (report_lines asked ds is.reports) (flat_map (fell_line asked) end.told ++ closing_text asked.form (ended_with end.ended is.looked) (told_now asked is.done is.reports ++ fell_told asked end.told))
+          (subst (Sends before [] last rest) (text_end asked ds gone.tally.groups is.reports end.told (ended_with end.ended is.looked) (groups_now asked inputs ares k r before after held audit gone s is))
+          (Sends-trans before later last [] waits rest (report_lines asked ds is.reports) (lines_at asked None gone.tally.groups (map fell end.told) ++ closing_text asked.form (ended_with end.ended is.looked) (grouped_all gone.tally.groups (fell_told asked end.told)) (told_now asked is.done is.reports ++ fell_told asked end.told))
           (sent_before asked inputs ares k r before after later held waits audit gone s is sends) end.sends)),
       end.outcome ∙ ap (λ (l : List Report). fault_outcome (has_findings l)) (told_end asked ds is.reports end.told),
     ) in
@@ -524,25 +555,27 @@ begins_whole asked inputs before last files left text = record {
 }
 
 -- some of what fell due at the end
-record Fallen (asked : AskedAudit) (now : ℕ) (audit : Option AuditState) (a : Option (List ℕ)) (held : List ℕ) (b : Option (List ℕ)) : Type 0 where
+record Fallen (asked : AskedAudit) (now : ℕ) (audit : Option AuditState) (groups : Option Groups) (a : Option (List ℕ)) (held : List ℕ) (b : Option (List ℕ)) : Type 0 where
   told : List FellDue
   some : TellsSome asked now audit [] (map fell told)
-  stops : Stops a held b (flat_map (fell_line asked) told)
+  stops : Stops a held b (lines_at asked None groups (map fell told))
 
-last_stops : (asked : AskedAudit) (now : ℕ) (audit : Option AuditState) (a : Option (List ℕ)) (held : List ℕ) (b : Option (List ℕ)) → StopsLast asked now audit a held b → Fallen asked now audit a held b
-last_stops asked now None a held b stops = absurd stops
-last_stops asked now (Some state) a held b stops = record { told = stops.told; some = (stops.told, stops.some, refl); stops = stops.stops }
+last_stops : (asked : AskedAudit) (now : ℕ) (audit : Option AuditState) (groups : Option Groups) (a : Option (List ℕ)) (held : List ℕ) (b : Option (List ℕ)) → StopsLast asked now audit groups a held b → Fallen asked now audit groups a held b
+last_stops asked now None groups a held b stops = absurd stops
+last_stops asked now (Some state) groups a held b stops = record { told = stops.told; some = (stops.told, stops.some, refl); stops = stops.stops }
 
 whole_stops : (asked : AskedAudit) (inputs ares : List (Option (List ℕ))) (k : ℕ) (r : ReaderValue) (before after later last : Option (List ℕ)) (held waits : List ℕ) (audit : Option AuditState) (gone : Gone) (s : IntakeValue) (items : List Item) (fault : Option FileFault)
     → (is : IsAudited asked inputs ares k r before after held audit gone s) → WholeFiles inputs (is.done ++ items) fault → Sends after held later waits []
     → ((q : IntakeValue) → arrivals asked.wanted.packets q items ≡ []) → StopsEnd asked gone audit (told_now asked is.done is.reports) is.looked later waits last → BeginsAudit inputs asked before last
 whole_stops asked inputs ares k r before after later last held waits audit gone s items fault is f sends empty (inl stops) =
     let ds = came asked is.done in
-    let fallen = last_stops asked gone.now audit later waits last stops in
+    let fallen = last_stops asked gone.now audit gone.tally.groups later waits last stops in
     begins_some asked inputs before last f.files f.left ds (whole_datagrams asked f.files is.done items f.came empty) (is.reports ++ map fell fallen.told)
     (subst (λ (l : List Seen). TellsSome asked 0 None l (is.reports ++ map fell fallen.told)) (append-nil (seen_in ds)) (is.some [] (map fell fallen.told) fallen.some))
-    (subst (Stops before [] last) (ap (λ (t : List ℕ). report_lines asked ds is.reports ++ t) (fell_text asked ds fallen.told) ∙ lines_on asked ds is.reports (map fell fallen.told))
-    (Stops-after before later last [] waits (report_lines asked ds is.reports) (flat_map (fell_line asked) fallen.told) (sent_before asked inputs ares k r before after later held waits audit gone s is sends) fallen.stops))
+    (subst (Stops before [] last)
+    (ap (λ (t : List ℕ). report_lines asked ds is.reports ++ t) (fell_same asked ds None gone.tally.groups fallen.told)
+    ∙ whole_lines asked ds gone.tally.groups is.reports (map fell fallen.told) (groups_now asked inputs ares k r before after held audit gone s is))
+    (Stops-after before later last [] waits (report_lines asked ds is.reports) (lines_at asked None gone.tally.groups (map fell fallen.told)) (sent_before asked inputs ares k r before after later held waits audit gone s is sends) fallen.stops))
 whole_stops asked inputs ares k r before after later last held waits audit gone s items fault is f sends empty (inr end) =
     let ds = came asked is.done in
     let goes = goes_end asked gone.now audit end.ended (seen_in ds) is.reports is.looked end.told end.ends is.goes in
@@ -551,8 +584,8 @@ whole_stops asked inputs ares k r before after later last held waits audit gone 
       is.reports ++ map fell end.told,
       goes.0,
       subst (λ l. Stops before [] last (audit_text asked ds (is.reports ++ map fell end.told) l)) (sym goes.1)
-          (subst (Stops before [] last) (text_end asked ds is.reports end.told (ended_with end.ended is.looked))
-          (Stops-after before later last [] waits (report_lines asked ds is.reports) (flat_map (fell_line asked) end.told ++ closing_text asked.form (ended_with end.ended is.looked) (told_now asked is.done is.reports ++ fell_told asked end.told))
+          (subst (Stops before [] last) (text_end asked ds gone.tally.groups is.reports end.told (ended_with end.ended is.looked) (groups_now asked inputs ares k r before after held audit gone s is))
+          (Stops-after before later last [] waits (report_lines asked ds is.reports) (lines_at asked None gone.tally.groups (map fell end.told) ++ closing_text asked.form (ended_with end.ended is.looked) (grouped_all gone.tally.groups (fell_told asked end.told)) (told_now asked is.done is.reports ++ fell_told asked end.told))
           (sent_before asked inputs ares k r before after later held waits audit gone s is sends) end.stops)),
     ))
 

@@ -1,15 +1,15 @@
 -- What an audit tells of the datagrams that come, and of those after them.
-use Rattle.std.proofs.Common.{◌≡◌, ℕ, ◌+◌, ◌-◌, Bool, true, false, List, [], ◌∷◌, ◌++◌, map, filter, if◌then◌else◌, length, Option, Some, None, refl, sym, ap, ◌∙◌, inl, inr, arith, add-zero, suc}
+use Rattle.std.proofs.Common.{◌≡◌, ℕ, ◌+◌, ◌-◌, Bool, true, false, List, [], ◌∷◌, ◌++◌, map, filter, if◌then◌else◌, length, Option, Some, None, refl, sym, ap, subst, ◌∙◌, inl, inr, arith, add-zero, suc}
 use Rattle.std.specs.Prelude.{◌⊎◌, slice_get, option_and_then}
 use Rattle.std.specs.List.{flat_map}
 use Rattle.std.proofs.lemmas.List.{append-nil}
 use Rattle.std.proofs.lemmas.List.Elements.{filter-append}
-use Rattle.std.proofs.lemmas.Grind.{flat_map-append}
 use Rattle.recording.specs.declared.Time.{Time}
 use Rattle.recording_packets.specs.Intake.{ArrivalValue}
 use Rattle.someip_tables.specs.declared.hashed.Origin.{Origin}
 use Rattle.someip_audit.specs.declared.FellDue.{FellDue}
 use Rattle.someip_audit.specs.declared.Finding.{Finding}
+use Rattle.someip_audit.specs.groups.GroupTables.{Groups}
 use Rattle.someip_audit.specs.Audits.{AuditState, Hears, Report, Seen, fell, found, seen_messages, seen_shown}
 use Rattle.someipctl_recordings.specs.Moments.{moment_of}
 use Rattle.someip_audit.specs.FellDues.{deadline}
@@ -17,10 +17,12 @@ use Rattle.someipctl_recordings.specs.Wanted.{WantedValue}
 use Rattle.someipctl_recordings.specs.declared.audit.audits.Gone.{Gone}
 use Rattle.someipctl_recordings.specs.declared.audit.subject.Subject.{Subject}
 use Rattle.someipctl_recordings.specs.audit.AskedAudits.{AskedAudit}
-use Rattle.someipctl_recordings.specs.audit.AuditText.{Looked, due_line, fell_line, finding_line, found_line, is_due_told, is_found_told, is_report_told, line_if, line_of_report, origin_of_due, report_line, report_lines, time_at, time_of, told_of}
+use Rattle.someipctl_recordings.specs.audit.AuditText.{Looked, finding_line, is_due_told, is_found_told, is_report_told, line_of_report, origin_of_due, report_lines, shown_lines, time_at, time_of, told_of}
+use Rattle.someipctl_recordings.specs.audit.Groupings.{groups_begun}
 use Rattle.someipctl_recordings.specs.audit.Subjects.{ChoosesNone, is_told, subject, subject_of_due}
 use Rattle.someipctl_recordings.specs.audit.SeenIn.{ended_with, AuditsSome, StopsAt, Tells, TellsSome, audit_at, looked_more, looked_of, none_looked, seen_from, seen_in, seen_next}
-use Rattle.someipctl_recordings.specs.audit.Steps.{fell_told, is_told_at, line_at}
+use Rattle.someipctl_recordings.specs.audit.Steps.{fell_told, is_told_at, line_at, lines_at, told_at}
+use Rattle.someipctl_recordings.proofs.about_audit.ShownLemmas.{AllSame, all_append, all_fell, all_filter, all_found, all_shown, same_lines}
 use Rattle.someipctl_recordings.proofs.about_audit.StepLemmas.{fell_told_at, told_more}
 
 -- ---- the datagrams
@@ -68,34 +70,6 @@ time_now k ds d others is =
     ap (λ n. option_and_then (λ (d : ArrivalValue). d.datagram.time) (slice_get (ds ++ d ∷ others) n)) (less_one k ∙ is)
     ∙ ap (option_and_then (λ (d : ArrivalValue). d.datagram.time)) (at_end ds d others)
 
-fell_same : (asked : AskedAudit) (all : List ArrivalValue) (time : Option Time) (told : List FellDue) → flat_map (line_at asked time) (map fell told) ≡ report_lines asked all (map fell told)
-fell_same asked all time [] = refl
-fell_same asked all time (one ∷ told) = ap (λ (t : List ℕ). fell_line asked one ++ t) (fell_same asked all time told)
-
-found_same : (asked : AskedAudit) (all : List ArrivalValue) (time : Option Time) (origin : Origin) (findings : List Finding) → time_of all origin.numbers.datagram ≡ time
-    → flat_map (line_at asked time) (map (found origin) findings) ≡ report_lines asked all (map (found origin) findings)
-found_same asked all time origin [] is = refl
-found_same asked all time origin (one ∷ findings) is =
-    ap (λ (t : List ℕ). line_at asked time (found origin one) ++ t) (found_same asked all time origin findings is)
-    ∙ ap (λ t. line_at asked t (found origin one) ++ report_lines asked all (map (found origin) findings)) (sym is)
-
-pub heard_same : (asked : AskedAudit) (all : List ArrivalValue) (time : Option Time) (seen : Seen) (state after : AuditState) (told : List Report) → time_of all seen.origin.numbers.datagram ≡ time
-    → Hears state seen told after → flat_map (line_at asked time) told ≡ report_lines asked all told
-heard_same asked all time seen state after told is hears =
-    let fallen = map fell hears.told in
-    let shown = map (found seen.origin) (seen_shown seen hears.between) in
-    ap (flat_map (line_at asked time)) hears.reported
-    ∙ flat_map-append (line_at asked time) fallen shown
-    ∙ ap (λ (t : List ℕ). t ++ flat_map (line_at asked time) shown) (fell_same asked all time hears.told)
-    ∙ ap (λ (t : List ℕ). report_lines asked all fallen ++ t) (found_same asked all time seen.origin (seen_shown seen hears.between) is)
-    ∙ sym (flat_map-append (report_line asked all) fallen shown)
-    ∙ ap (report_lines asked all) (sym hears.reported)
-
-pub some_same : (asked : AskedAudit) (all : List ArrivalValue) (time : Option Time) (seen : Seen) (state : AuditState) (told : List Report) → time_of all seen.origin.numbers.datagram ≡ time
-    → StopsAt seen.now state told ⊎ ((after : AuditState) × Hears state seen told after) → flat_map (line_at asked time) told ≡ report_lines asked all told
-some_same asked all time seen state told is (inl s) = ap (flat_map (line_at asked time)) s.2 ∙ fell_same asked all time s.0 ∙ ap (report_lines asked all) (sym s.2)
-some_same asked all time seen state told is (inr s) = heard_same asked all time seen state s.0 told is s.1
-
 -- ---- those that are told
 
 pub told_on : (asked : AskedAudit) (all : List ArrivalValue) (reports more : List Report) → told_of asked all (reports ++ more) ≡ told_of asked all reports ++ told_of asked all more
@@ -106,7 +80,7 @@ fell_told_in asked all [] = refl
 fell_told_in asked all (one ∷ told) = ap (λ (l : List Report). if is_due_told asked one then fell one ∷ l else l) (fell_told_in asked all told)
 
 found_told_in : (asked : AskedAudit) (all : List ArrivalValue) (time : Option Time) (origin : Origin) (findings : List Finding) → time_of all origin.numbers.datagram ≡ time
-    → filter (is_told_at asked time) (map (found origin) findings) ≡ told_of asked all (map (found origin) findings)
+    → told_at asked time (map (found origin) findings) ≡ told_of asked all (map (found origin) findings)
 found_told_in asked all time origin [] is = refl
 found_told_in asked all time origin (one ∷ findings) is =
     ap (λ (l : List Report). if is_found_told asked time origin one then found origin one ∷ l else l) (found_told_in asked all time origin findings is)
@@ -114,32 +88,50 @@ found_told_in asked all time origin (one ∷ findings) is =
 
 -- those of a datagram
 pub heard_told : (asked : AskedAudit) (all : List ArrivalValue) (time : Option Time) (seen : Seen) (state after : AuditState) (told : List Report) → time_of all seen.origin.numbers.datagram ≡ time
-    → Hears state seen told after → filter (is_told_at asked time) told ≡ told_of asked all told
+    → Hears state seen told after → told_at asked time told ≡ told_of asked all told
 heard_told asked all time seen state after told is hears =
     let fallen = map fell hears.told in
     let shown = map (found seen.origin) (seen_shown seen hears.between) in
-    ap (filter (is_told_at asked time)) hears.reported
+    ap (told_at asked time) hears.reported
     ∙ told_more asked time fallen shown
-    ∙ ap (λ (l : List Report). l ++ filter (is_told_at asked time) shown) (sym (fell_told_at asked time hears.told) ∙ fell_told_in asked all hears.told)
+    ∙ ap (λ (l : List Report). l ++ told_at asked time shown) (sym (fell_told_at asked time hears.told) ∙ fell_told_in asked all hears.told)
     ∙ ap (λ (l : List Report). told_of asked all fallen ++ l) (found_told_in asked all time seen.origin (seen_shown seen hears.between) is)
     ∙ sym (told_on asked all fallen shown)
     ∙ ap (told_of asked all) (sym hears.reported)
 
-if_more : (b : Bool) (line : List ℕ) (report : Report) (told : List Report) (f : Report → List ℕ) → f report ≡ line
-    → line_if b line ++ flat_map f told ≡ flat_map f (if b then report ∷ told else told)
-if_more true line report told f is = ap (λ (t : List ℕ). t ++ flat_map f told) (sym is)
-if_more false line report told f is = refl
+-- ---- their lines
 
--- the lines are those of what is told
-pub lines_are_of_told : (asked : AskedAudit) (all : List ArrivalValue) (reports : List Report) → report_lines asked all reports ≡ flat_map (line_of_report asked all) (told_of asked all reports)
-lines_are_of_told asked all [] = refl
-lines_are_of_told asked all (fell told ∷ reports) =
-    ap (λ (t : List ℕ). fell_line asked told ++ t) (lines_are_of_told asked all reports)
-    ∙ if_more (is_due_told asked told) (due_line asked.form asked.frames told) (fell told) (told_of asked all reports) (line_of_report asked all) refl
-lines_are_of_told asked all (found origin finding ∷ reports) =
-    let time = time_of all origin.numbers.datagram in
-    ap (λ (t : List ℕ). found_line asked time origin finding ++ t) (lines_are_of_told asked all reports)
-    ∙ if_more (is_found_told asked time origin finding) (finding_line asked.form asked.frames time origin finding) (found origin finding) (told_of asked all reports) (line_of_report asked all) refl
+-- of what fell due each is as of any datagrams
+pub fell_same : (asked : AskedAudit) (all : List ArrivalValue) (time : Option Time) (groups : Option Groups) (told : List FellDue)
+    → lines_at asked time groups (map fell told) ≡ shown_lines (line_of_report asked all) groups (told_of asked all (map fell told))
+fell_same asked all time groups told =
+    same_lines (line_at asked time) (line_of_report asked all) groups (told_at asked time (map fell told))
+    (all_filter (line_at asked time) (line_of_report asked all) (is_told_at asked time) (map fell told) (all_fell (line_at asked time) (line_of_report asked all) (λ one. refl) told))
+    ∙ ap (shown_lines (line_of_report asked all) groups) (sym (fell_told_at asked time told) ∙ fell_told_in asked all told)
+
+pub heard_same : (asked : AskedAudit) (all : List ArrivalValue) (time : Option Time) (seen : Seen) (state after : AuditState) (groups : Option Groups) (told : List Report) → time_of all seen.origin.numbers.datagram ≡ time
+    → Hears state seen told after → lines_at asked time groups told ≡ shown_lines (line_of_report asked all) groups (told_of asked all told)
+heard_same asked all time seen state after groups told is hears =
+    same_lines (line_at asked time) (line_of_report asked all) groups (told_at asked time told)
+    (all_filter (line_at asked time) (line_of_report asked all) (is_told_at asked time) told (subst (AllSame (line_at asked time) (line_of_report asked all)) (sym hears.reported) each))
+    ∙ ap (shown_lines (line_of_report asked all) groups) (heard_told asked all time seen state after told is hears)
+  where
+    each : AllSame (line_at asked time) (line_of_report asked all) (map fell hears.told ++ map (found seen.origin) (seen_shown seen hears.between))
+    each =
+        all_append (line_at asked time) (line_of_report asked all) (map fell hears.told) (map (found seen.origin) (seen_shown seen hears.between))
+        (all_fell (line_at asked time) (line_of_report asked all) (λ one. refl) hears.told)
+        (all_found (line_at asked time) (line_of_report asked all) seen.origin (λ finding. ap (λ t. finding_line asked.form asked.frames t seen.origin finding) (sym is)) (seen_shown seen hears.between))
+
+pub some_same : (asked : AskedAudit) (all : List ArrivalValue) (time : Option Time) (seen : Seen) (state : AuditState) (groups : Option Groups) (told : List Report) → time_of all seen.origin.numbers.datagram ≡ time
+    → StopsAt seen.now state told ⊎ ((after : AuditState) × Hears state seen told after) → lines_at asked time groups told ≡ shown_lines (line_of_report asked all) groups (told_of asked all told)
+some_same asked all time seen state groups told is (inl s) =
+    ap (lines_at asked time groups) s.2 ∙ fell_same asked all time groups s.0 ∙ ap (λ (l : List Report). shown_lines (line_of_report asked all) groups (told_of asked all l)) (sym s.2)
+some_same asked all time seen state groups told is (inr s) = heard_same asked all time seen state s.0 groups told is s.1
+
+-- the lines are those of what is told, where findings are not grouped
+pub lines_are_of_told : (asked : AskedAudit) (all : List ArrivalValue) (reports : List Report) → asked.group ≡ false → report_lines asked all reports ≡ flat_map (line_of_report asked all) (told_of asked all reports)
+lines_are_of_told asked all reports alone =
+    ap (λ g. shown_lines (line_of_report asked all) (groups_begun g) (told_of asked all reports)) alone ∙ all_shown (line_of_report asked all) (told_of asked all reports)
 
 -- where nothing is chosen, each finding is told
 always : (w : WantedValue) (time : Option Time) (origin : Origin) (subject : Option Subject) → ChoosesNone w → is_told w time origin subject ≡ true

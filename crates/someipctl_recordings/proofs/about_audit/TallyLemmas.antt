@@ -4,6 +4,7 @@ use Rattle.std.proofs.lemmas.Bool.{eqb-false}
 use Rattle.std.proofs.lemmas.List.{get_or-set_other, get_or-set_same, length-set}
 use Rattle.std.proofs.lemmas.List.Sums.{sum_by_push}
 use Rattle.std.specs.List.{flat_map, slice_index, slice_set}
+use Rattle.someip_audit.specs.groups.GroupTables.{Groups}
 use Rattle.someip_audit.specs.Audits.{AuditState, Report}
 use Rattle.someipctl_io.specs.declared.form.Form.{Form}
 use Rattle.someipctl_io.specs.declared.form.Form.TheVariants.{Json, Plain}
@@ -14,6 +15,7 @@ use Rattle.someipctl_recordings.specs.declared.audit.tally.Tally.{Tally}
 use Rattle.someipctl_recordings.specs.audit.Kinds.{all_kinds, kind_number}
 use Rattle.someipctl_recordings.specs.audit.AuditText.{Looked, audited_line, closing_text, count_of, kind_line, kind_of, summary_text}
 use Rattle.someipctl_recordings.specs.audit.SeenIn.{ended_with}
+use Rattle.someipctl_recordings.specs.audit.Groupings.{groups_text}
 use Rattle.someipctl_recordings.specs.audit.Unjudged.{unjudged_text}
 use Rattle.someipctl_recordings.specs.audit.Tallies.{Counts, tally_after, tally_kinds, looked_in, tally_line}
 
@@ -39,20 +41,31 @@ same_summary form t reports looked counts =
 
 -- ---- the summary, and what an audit could not judge at its end
 
-module _ (ended : Option AuditState) (looked : Looked) (reports : List Report) where
+module _ (ended : Option AuditState) (looked : Looked) (groups : Option Groups) (reports : List Report) where
   pub closing_sends : (form : Form) (a : Option (List ℕ)) (held : List ℕ) (b : Option (List ℕ)) (waits : List ℕ)
-      → Sends a held b waits (summary_text form looked reports ++ unjudged_text form looked.passed ended)
-      → Sends a held b waits (closing_text form (ended_with ended looked) reports)
+      → Sends a held b waits (summary_text form looked reports ++ (groups_text form groups ++ unjudged_text form looked.passed ended))
+      → Sends a held b waits (closing_text form (ended_with ended looked) groups reports)
   closing_sends Plain a held b waits sends = sends
   closing_sends Json a held b waits sends = sends
 
   pub closing_stops : (form : Form) (a : Option (List ℕ)) (held : List ℕ) (b : Option (List ℕ))
-      → Stops a held b (summary_text form looked reports ++ unjudged_text form looked.passed ended)
-      → Stops a held b (closing_text form (ended_with ended looked) reports)
+      → Stops a held b (summary_text form looked reports ++ (groups_text form groups ++ unjudged_text form looked.passed ended))
+      → Stops a held b (closing_text form (ended_with ended looked) groups reports)
   closing_stops Plain a held b stops = stops
   closing_stops Json a held b stops = stops
 
 -- ---- one more
+
+-- groups are counted apart
+pub counts_regrouped : (t : Tally) (groups : Option Groups) (reports : List Report) (looked : Looked) → Counts t reports looked → Counts (record t { groups = groups }) reports looked
+counts_regrouped t groups reports looked counts = record {
+  datagrams = counts.datagrams;
+  messages = counts.messages;
+  passed = counts.passed;
+  findings = counts.findings;
+  size = counts.size;
+  kinds = counts.kinds;
+}
 
 below : (kind : Kind) → kind_number kind < 27
 below Malformed = lit< tt

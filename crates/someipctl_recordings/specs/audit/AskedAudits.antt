@@ -6,12 +6,13 @@ use Rattle.someipctl_recordings.specs.declared.audit.asked.AuditAsked.{AuditAske
 use Rattle.someipctl_recordings.specs.Wanted.{WantedValue, view_wanted}
 
 -- its settings; which packets and ports are looked at, and of which services, clients, addresses and times findings are told;
--- the form of the lines; and whether each tells the number of its packet
+-- the form of the lines; whether each tells the number of its packet; and whether only the first three of a group are shown
 pub record AskedAudit : Type 0 where
   pub rules : AuditRules
   pub wanted : WantedValue
   pub form : Form
   pub frames : Bool
+  pub group : Bool
 
 -- endpoints are learnt where that is asked for, and where no ports are named
 abbrev pub learns : WantedValue → Bool
@@ -19,4 +20,4 @@ learns w = w.learned || is_none w.ports
 
 -- by the program's values
 abbrev pub view_asked : AuditAsked → AskedAudit
-view_asked asked = record { rules = asked.rules; wanted = view_wanted asked.wanted; form = asked.form; frames = asked.frames }
+view_asked asked = record { rules = asked.rules; wanted = view_wanted asked.wanted; form = asked.form; frames = asked.frames; group = asked.group }

@@ -26,6 +26,9 @@ use Rattle.someipctl_recordings.specs.audit.Said.{Said, said, said_of_due, said_
 use Rattle.someipctl_recordings.specs.audit.ToldFindings.{audit_head, due_told, finding_told, kind_told}
 use Rattle.someipctl_recordings.specs.audit.Subjects.{is_told, subject, subject_of_due}
 use Rattle.someipctl_recordings.specs.audit.Unjudged.{unjudged_text}
+use Rattle.someipctl_recordings.specs.audit.Groupings.{group_key, grouped, groups_begun, groups_text, is_shown}
+use Rattle.someip_audit.specs.groups.GroupTables.{Groups}
+use Rattle.someip_audit.specs.declared.groups.GroupKey.{GroupKey}
 
 -- ---- a plain line
 
@@ -72,17 +75,9 @@ finding_line form frames time origin finding = line_text form (audit_head frames
 abbrev pub is_due_told : AskedAudit → FellDue → Bool
 is_due_told asked told = is_told asked.wanted (Some (time_at (deadline told))) (origin_of_due told) (Some (subject_of_due told))
 
--- its line, if it is
-abbrev pub fell_line : AskedAudit → FellDue → List ℕ
-fell_line asked told = line_if (is_due_told asked told) (due_line asked.form asked.frames told)
-
 -- a finding of a datagram with this time is told
 abbrev pub is_found_told : AskedAudit → Option Time → Origin → Finding → Bool
 is_found_told asked time origin finding = is_told asked.wanted time origin (subject finding)
-
--- its line, if it is
-abbrev pub found_line : AskedAudit → Option Time → Origin → Finding → List ℕ
-found_line asked time origin finding = line_if (is_found_told asked time origin finding) (finding_line asked.form asked.frames time origin finding)
 
 -- the time of the datagram with this number, counted from 1
 abbrev pub time_of : List ArrivalValue → ℕ → Option Time
@@ -97,18 +92,30 @@ is_report_told asked arrivals (found origin finding) = is_found_told asked (time
 abbrev pub told_of : AskedAudit → List ArrivalValue → List Report → List Report
 told_of asked arrivals reports = filter (is_report_told asked arrivals) reports
 
--- the line of a report, if it is told
-abbrev pub report_line : AskedAudit → List ArrivalValue → Report → List ℕ
-report_line asked arrivals (fell told) = fell_line asked told
-report_line asked arrivals (found origin finding) = found_line asked (time_of arrivals origin.numbers.datagram) origin finding
-
--- the line of a report, told or not
+-- the line of a report
 abbrev pub line_of_report : AskedAudit → List ArrivalValue → Report → List ℕ
 line_of_report asked arrivals (fell told) = due_line asked.form asked.frames told
 line_of_report asked arrivals (found origin finding) = finding_line asked.form asked.frames (time_of arrivals origin.numbers.datagram) origin finding
 
+-- ---- groups
+
+-- the group of a report
+abbrev pub group_of : Report → GroupKey
+group_of (fell told) = group_key (said_of_due told).kind (Some (subject_of_due told)) (origin_of_due told)
+group_of (found origin finding) = group_key (said finding).kind (subject finding) origin
+
+-- what came of each group once these did
+abbrev pub grouped_all : Option Groups → List Report → Option Groups
+grouped_all groups [] = groups
+grouped_all groups (report ∷ reports) = grouped_all (grouped (group_of report) groups) reports
+
+-- the lines of reports that are told: of those of a group the first three, where that is asked for
+abbrev pub shown_lines : (Report → List ℕ) → Option Groups → List Report → List ℕ
+shown_lines line groups [] = []
+shown_lines line groups (report ∷ reports) = line_if (is_shown groups (group_of report)) (line report) ++ shown_lines line (grouped (group_of report) groups) reports
+
 abbrev pub report_lines : AskedAudit → List ArrivalValue → List Report → List ℕ
-report_lines asked arrivals reports = flat_map (report_line asked arrivals) reports
+report_lines asked arrivals reports = shown_lines (line_of_report asked arrivals) (groups_begun asked.group) (told_of asked arrivals reports)
 
 -- ---- the summary
 
@@ -157,15 +164,17 @@ kind_line form kind n = if n == 0 then [] else counted_line form kind n
 abbrev pub summary_text : Form → Looked → List Report → List ℕ
 summary_text form looked reports = audited_line form looked (length reports) ++ flat_map (λ kind. kind_line form kind (count_of kind reports)) all_kinds
 
--- the summary, and what could not be judged
-abbrev pub closing_text : Form → Looked → List Report → List ℕ
-closing_text form looked reports = summary_text form looked reports ++ unjudged_text form looked.passed looked.ended
+-- the summary, how many more of each group there were than are shown, and what could not be judged
+abbrev pub closing_text : Form → Looked → Option Groups → List Report → List ℕ
+closing_text form looked groups reports = summary_text form looked reports ++ (groups_text form groups ++ unjudged_text form looked.passed looked.ended)
 
 -- ---- the whole
 
 -- the text of these reports of these datagrams: the lines of those that are told, their summary, and what could not be judged
 abbrev pub audit_text : AskedAudit → List ArrivalValue → List Report → Looked → List ℕ
-audit_text asked arrivals reports looked = report_lines asked arrivals reports ++ closing_text asked.form looked (told_of asked arrivals reports)
+audit_text asked arrivals reports looked =
+    report_lines asked arrivals reports
+    ++ closing_text asked.form looked (grouped_all (groups_begun asked.group) (told_of asked arrivals reports)) (told_of asked arrivals reports)
 
 -- ---- what becomes of a line
 

@@ -21,7 +21,11 @@ use Rattle.someipctl_io.specs.declared.form.Form.TheVariants.{Plain}
 use Rattle.someipctl_show.specs.declared.services.AskedService.{AskedService}
 use Rattle.someipctl_recordings.specs.Wanted.{WantedValue, all_wanted}
 use Rattle.someipctl_recordings.specs.audit.AskedAudits.{AskedAudit}
+use Rattle.someip_audit.specs.declared.groups.GroupKey.{GroupKey}
+use Rattle.someipctl_recordings.specs.declared.audit.kind.Kind.TheVariants.{Late, OfferMoved, Reboot}
 use Rattle.someipctl_recordings.specs.audit.AuditText.{Looked}
+use Rattle.someipctl_recordings.specs.audit.Groupings.{group_key}
+use Rattle.someipctl_recordings.specs.audit.Subjects.{about_call, about_nothing, about_service}
 
 -- an endpoint of node n
 abbrev pub socket : ℕ → ℕ → SocketAddrV4
@@ -123,6 +127,7 @@ asks wanted = record {
   wanted = wanted;
   form = Plain;
   frames = false;
+  group = false;
 }
 
 abbrev pub of_services : AskedService → AskedAudit
@@ -140,3 +145,13 @@ before until = asks (record all_wanted { until = Some until })
 -- three datagrams of four messages were looked at
 abbrev pub three_datagrams : Looked
 three_datagrams = record { datagrams = 3; messages = 4; passed = 0; ended = None }
+
+-- groups of late answers, and of reboots
+abbrev pub late_group : GroupKey
+late_group = group_key Late (Some (about_call 0x1234 0x0421 0x0101)) origin_1
+
+abbrev pub reboot_group : GroupKey
+reboot_group = group_key Reboot (Some about_nothing) origin_1
+
+abbrev pub moved_group : GroupKey
+moved_group = group_key OfferMoved (Some (about_service 0x1234)) origin_1

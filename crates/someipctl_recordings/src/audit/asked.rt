@@ -17,4 +17,7 @@ pub struct AuditAsked<'a> {
     pub form: Form,
     /// Whether each line tells the number of its packet: a plain one begins with it, as in `#12`.
     pub frames: bool,
+    /// Whether only the first three findings of a group are shown, and the others counted: of those with one kind,
+    /// service, method, sender and receiver.
+    pub group: bool,
 }

@@ -1,16 +1,16 @@
 //! What is printed of one datagram, and of what falls due before it.
-ghost use Rattle.std.specs.Prelude.{◌≡◌, ◌∷◌, ◌+◌, ◌<◌, ◌^◌, [], IfErr, None, OnErr, OnOk, filter, map};
+ghost use Rattle.std.specs.Prelude.{◌≡◌, ◌∷◌, ◌+◌, ◌<◌, ◌^◌, [], IfErr, None, OnErr, OnOk, map};
 ghost use Rattle.someipctl_io.specs.declared.Fault.TheVariants.{CannotRead};
-ghost use Rattle.std.specs.List.{flat_map};
-ghost use Rattle.someip_audit.specs.Audits.{found};
+ghost use Rattle.someip_audit.specs.Audits.{fell, found};
 ghost use Rattle.someipctl_io.specs.Sending.{Sends, Stops};
 ghost use Rattle.someipctl_recordings.specs.audit.AskedAudits.{view_asked};
-ghost use Rattle.someipctl_recordings.specs.audit.AuditText.{fell_line, found_line};
+ghost use Rattle.someipctl_recordings.specs.audit.AuditText.{due_line, finding_line, line_if};
 ghost use Rattle.someipctl_recordings.specs.audit.Scenes.{view_seen};
 ghost use Rattle.someipctl_recordings.specs.audit.Steps.{CountsMore, PutsDue, PutsSeen, StopsDue, StopsSeen};
-ghost use Rattle.someipctl_recordings.specs.audit.Steps.{fell_told, is_told_at};
+ghost use Rattle.someipctl_recordings.specs.audit.Steps.{fell_told, lines_at, told_at};
 
 use crate::audit::asked::AuditAsked;
+use crate::audit::group::{group_of_due, group_of_found, kind_of, kind_of_due};
 use crate::audit::lines::{is_due_told, is_found_told, put_fell_due, put_found};
 use crate::audit::tally::Tally;
 use recording::Time;
@@ -18,7 +18,7 @@ use someip_audit::{Audit, FellDue, Finding};
 use someip_reassembly::Reassembly;
 use someip_tables::Moment;
 use someip_tables::hashed::Origin;
-use someipctl_io::{Buffer, Fault};
+use someipctl_io::{Buffer, CannotWrite, Fault};
 use std::alloc::Global;
 use std::convert::Infallible;
 use std::io::Write;
@@ -51,7 +51,7 @@ pub(crate) fn put_seen<S: Reassembly + Drop, W: Write>(
     ensures puts { OnOk result (PutsSeen (view_asked asked.now) seen.entry.now.time (view_seen seen.entry.now)
         audit.old audit.new tally.old tally.new (W.contents writer.old) buffer.old (W.contents writer.new) buffer.new) }
     ensures stops { OnErr result (StopsSeen (view_asked asked.now) seen.entry.now.time (view_seen seen.entry.now) audit.old
-        (W.contents writer.old) buffer.old (W.contents writer.new)) }
+        tally.old.groups (W.contents writer.old) buffer.old (W.contents writer.new)) }
 {
     put_due(buffer, writer, asked, audit, seen.now, tally)?;
     findings.clear();
@@ -79,7 +79,7 @@ pub(crate) fn put_due<S: Reassembly + Drop, W: Write>(
 ) -> Result<(), Fault<Infallible>>
     ensures puts { OnOk result (PutsDue (view_asked asked.now) now audit.old audit.new tally.old tally.new
         (W.contents writer.old) buffer.old (W.contents writer.new) buffer.new) }
-    ensures stops { OnErr result (StopsDue (view_asked asked.now) now audit.old
+    ensures stops { OnErr result (StopsDue (view_asked asked.now) now audit.old tally.old.groups
         (W.contents writer.old) buffer.old (W.contents writer.new)) }
     ensures read { IfErr result (λ fault. fault ≡ CannotRead → ⊥) }
 {
@@ -100,20 +100,41 @@ fn tell_due<W: Write>(
     tally: &mut Tally,
 ) -> Result<(), Fault<Infallible>>
     ensures ok { OnOk result (Sends (W.contents writer.old) buffer.old (W.contents writer.new) buffer.new
-        (fell_line (view_asked asked.now) told.now)) }
+        (lines_at (view_asked asked.now) None tally.old.groups (fell told.now ∷ []))) }
     ensures counts { OnOk result (CountsMore tally.old tally.new (fell_told (view_asked asked.now) (told.now ∷ []))) }
     ensures more { OnOk result (tally.new.reports ≡ tally.old.reports + 1) }
     ensures few { OnOk result (tally.new.reports < 2 ^ 64) }
     ensures err { OnErr result (Stops (W.contents writer.old) buffer.old (W.contents writer.new)
-        (fell_line (view_asked asked.now) told.now)) }
+        (lines_at (view_asked asked.now) None tally.old.groups (fell told.now ∷ []))) }
     ensures read { IfErr result (λ fault. fault ≡ CannotRead → ⊥) }
 {
     if !is_due_told(asked, told) {
         tally.pass()?;
         return Ok(());
     }
-    let kind = put_fell_due(buffer, writer, asked, told)?;
-    tally.tell(kind)?;
+    let is_shown = tally.shows(group_of_due(told))?;
+    show_due(buffer, writer, asked, told, is_shown)?;
+    tally.tell(kind_of_due(told))?;
+    Ok(())
+}
+
+/// Prints the line of what fell due, if it is shown.
+fn show_due<W: Write>(
+    buffer: &mut Buffer,
+    writer: &mut W,
+    asked: &AuditAsked<'_>,
+    told: &FellDue,
+    is_shown: bool,
+) -> Result<(), CannotWrite>
+    ensures ok { OnOk result (Sends (W.contents writer.old) buffer.old (W.contents writer.new) buffer.new
+        (line_if is_shown (due_line asked.now.form asked.now.frames told.now))) }
+    ensures err { OnErr result (Stops (W.contents writer.old) buffer.old (W.contents writer.new)
+        (line_if is_shown (due_line asked.now.form asked.now.frames told.now))) }
+{
+    if !is_shown {
+        return Ok(());
+    }
+    put_fell_due(buffer, writer, asked, told)?;
     Ok(())
 }
 
@@ -128,11 +149,11 @@ fn put_all_found<W: Write>(
     tally: &mut Tally,
 ) -> Result<(), Fault<Infallible>>
     ensures ok { OnOk result (Sends (W.contents writer.old) buffer.old (W.contents writer.new) buffer.new
-        (flat_map (found_line (view_asked asked.now) time origin.now) findings.now)) }
+        (lines_at (view_asked asked.now) time tally.old.groups (map (found origin.now) findings.now))) }
     ensures counts { OnOk result (CountsMore tally.old tally.new
-        (filter (is_told_at (view_asked asked.now) time) (map (found origin.now) findings.now))) }
+        (told_at (view_asked asked.now) time (map (found origin.now) findings.now))) }
     ensures err { OnErr result (Stops (W.contents writer.old) buffer.old (W.contents writer.new)
-        (flat_map (found_line (view_asked asked.now) time origin.now) findings.now)) }
+        (lines_at (view_asked asked.now) time tally.old.groups (map (found origin.now) findings.now))) }
 {
     for finding in findings {
         tell_found(buffer, writer, asked, time, origin, finding, tally)?;
@@ -151,17 +172,40 @@ fn tell_found<W: Write>(
     tally: &mut Tally,
 ) -> Result<(), Fault<Infallible>>
     ensures ok { OnOk result (Sends (W.contents writer.old) buffer.old (W.contents writer.new) buffer.new
-        (found_line (view_asked asked.now) time origin.now finding.now)) }
+        (lines_at (view_asked asked.now) time tally.old.groups (found origin.now finding.now ∷ []))) }
     ensures counts { OnOk result (CountsMore tally.old tally.new
-        (filter (is_told_at (view_asked asked.now) time) (found origin.now finding.now ∷ []))) }
+        (told_at (view_asked asked.now) time (found origin.now finding.now ∷ []))) }
     ensures err { OnErr result (Stops (W.contents writer.old) buffer.old (W.contents writer.new)
-        (found_line (view_asked asked.now) time origin.now finding.now)) }
+        (lines_at (view_asked asked.now) time tally.old.groups (found origin.now finding.now ∷ []))) }
 {
     if !is_found_told(asked, time, origin, finding) {
         tally.pass()?;
         return Ok(());
     }
-    let kind = put_found(buffer, writer, asked, time, origin, finding)?;
-    tally.tell(kind)?;
+    let is_shown = tally.shows(group_of_found(origin, finding))?;
+    show_found(buffer, writer, asked, time, origin, finding, is_shown)?;
+    tally.tell(kind_of(finding))?;
+    Ok(())
+}
+
+/// Prints the line of a finding of a datagram with this time, if it is shown.
+fn show_found<W: Write>(
+    buffer: &mut Buffer,
+    writer: &mut W,
+    asked: &AuditAsked<'_>,
+    time: Option<Time>,
+    origin: &Origin,
+    finding: &Finding,
+    is_shown: bool,
+) -> Result<(), CannotWrite>
+    ensures ok { OnOk result (Sends (W.contents writer.old) buffer.old (W.contents writer.new) buffer.new
+        (line_if is_shown (finding_line asked.now.form asked.now.frames time origin.now finding.now))) }
+    ensures err { OnErr result (Stops (W.contents writer.old) buffer.old (W.contents writer.new)
+        (line_if is_shown (finding_line asked.now.form asked.now.frames time origin.now finding.now))) }
+{
+    if !is_shown {
+        return Ok(());
+    }
+    put_found(buffer, writer, asked, time, origin, finding)?;
     Ok(())
 }

@@ -2,7 +2,7 @@
 //!
 //! K counts all datagrams of the recording, looked at or not, as `recording FILE` without a selection
 //! counts them, so that a line can be found in both; the summary counts those that were looked at.
-ghost use Rattle.std.specs.Prelude.{◌≡◌, ◌≤◌, ◌<◌, ◌+◌, ◌^◌, [], IfErr, IfOk, List, None, OnErr, OnOk, Some, length, map};
+ghost use Rattle.std.specs.Prelude.{◌≡◌, ◌≤◌, ◌<◌, ◌+◌, ◌++◌, ◌^◌, [], IfErr, IfOk, List, None, OnErr, OnOk, Some, length, map};
 ghost use Rattle.someipctl_io.specs.declared.Fault.TheVariants.{CannotRead};
 ghost use Rattle.someipctl_io.specs.Sending.{Sends, Stops};
 ghost use Rattle.recording.specs.View.{view_record};
@@ -14,14 +14,17 @@ ghost use Rattle.someipctl_recordings.specs.audit.AskedAudits.{learns, view_aske
 ghost use Rattle.someipctl_recordings.specs.Wanted.{ports_of, view_wanted};
 ghost use Rattle.someipctl_recordings.specs.audit.AuditResult.{BeginsAudit, ShowsAudit};
 ghost use Rattle.someipctl_recordings.specs.audit.AuditText.{Looked, closing_text};
-ghost use Rattle.someipctl_recordings.specs.audit.Runs.{PutsAudit, PutsDatagram, PutsEnd, PutsLast, PutsNext, PutsRecord};
+ghost use Rattle.someipctl_recordings.specs.audit.Runs.{IsNothing, PutsAudit, PutsDatagram, PutsEnd, PutsLast, PutsNext, PutsRecord};
 ghost use Rattle.someipctl_recordings.specs.audit.Runs.{StopsDatagram, StopsEnd, StopsLast, StopsNext, StopsRecord};
 ghost use Rattle.someipctl_recordings.specs.audit.Scenes.{view_seen};
-ghost use Rattle.someipctl_recordings.specs.audit.SeenIn.{audit_at, ended_with, none_looked, seen_next};
+ghost use Rattle.someipctl_recordings.specs.audit.SeenIn.{audit_at, ended_with, seen_next};
+ghost use Rattle.someipctl_recordings.specs.audit.Groupings.{groups_text};
 ghost use Rattle.someipctl_recordings.specs.audit.Tallies.{Counts};
+ghost use Rattle.someipctl_recordings.specs.audit.Unjudged.{unjudged_text};
 
 use crate::audit::asked::AuditAsked;
 use crate::audit::auditing::{SeenDatagram, put_due, put_seen};
+use crate::audit::groups::put_groups;
 use crate::audit::summary::put_summary;
 use crate::audit::tally::Tally;
 use crate::audit::unjudged::put_unjudged;
@@ -52,7 +55,7 @@ pub(crate) struct Auditing<S: Reassembly> {
 }
 
 /// How far a recording is gone over.
-#[derive(Clone, Copy)]
+#[derive(Drop)]
 pub(crate) struct Gone {
     /// How many datagrams came.
     pub(crate) datagrams: usize,
@@ -106,12 +109,21 @@ fn show_files<S: Reassembly + Drop, R: Read, W: Write>(
     ensures unread { IfErr result (λ fault. fault ≡ CannotRead → file.new < length sources.old) }
 {
     let mut buffer = Buffer::new(alloc)?;
+    let mut gone = Gone::nothing(alloc, asked.group);
     let mut auditing = Auditing::<S> {
         alloc,
         audit: None,
         findings: Vec::new(alloc),
     };
-    let shown = put_audit(sources, asked, file, &mut auditing, &mut buffer, writer)?;
+    let shown = put_audit(
+        sources,
+        asked,
+        file,
+        &mut auditing,
+        &mut gone,
+        &mut buffer,
+        writer,
+    )?;
     buffer.flush(writer)?;
     Ok(shown)
 }
@@ -122,12 +134,14 @@ fn put_audit<S: Reassembly + Drop, R: Read, W: Write>(
     asked: &AuditAsked<'_>,
     file: &mut usize,
     auditing: &mut Auditing<S>,
+    gone: &mut Gone,
     buffer: &mut Buffer,
     writer: &mut W,
 ) -> Result<ShownRecording, Fault<Infallible>>
     requires first { file.old ≡ 0 }
     requires empty { buffer.old ≡ [] }
     requires begun { auditing.old.audit ≡ None }
+    requires nothing { IsNothing asked.now.group gone.old }
     ensures puts { IfOk result (λ shown. PutsAudit (map R.remaining sources.old) (view_asked asked.now)
         shown (W.contents writer.old) (W.contents writer.new) buffer.new) }
     ensures begun { OnErr result (BeginsAudit (map R.remaining sources.old) (view_asked asked.now)
@@ -137,7 +151,6 @@ fn put_audit<S: Reassembly + Drop, R: Read, W: Write>(
     let alloc = auditing.alloc;
     let mut intake = Intake::new(alloc, &asked.wanted.packets);
     let mut recording = RecordingReader::new(alloc);
-    let mut gone = Gone::nothing();
     while *file < sources.len() {
         let coming = next_coming(&mut recording, &mut sources[*file], buffer, writer)?;
         match coming {
@@ -149,7 +162,7 @@ fn put_audit<S: Reassembly + Drop, R: Read, W: Write>(
                     writer,
                     asked,
                     auditing,
-                    &mut gone,
+                    gone,
                     intake.left_out(),
                     fault,
                 );
@@ -168,7 +181,7 @@ fn put_audit<S: Reassembly + Drop, R: Read, W: Write>(
                 &found,
                 &mut intake,
                 auditing,
-                &mut gone,
+                gone,
             )?;
         }
     }
@@ -177,7 +190,7 @@ fn put_audit<S: Reassembly + Drop, R: Read, W: Write>(
         writer,
         asked,
         auditing,
-        &mut gone,
+        gone,
         intake.left_out(),
         None,
     )
@@ -278,7 +291,7 @@ fn put_next<S: Reassembly + Drop, W: Write>(
 ) -> Result<(), Fault<Infallible>>
     ensures puts { OnOk result (PutsNext (view_asked asked.now) seen.entry.now auditing.old.audit auditing.new.audit
         tally.old tally.new (W.contents writer.old) buffer.old (W.contents writer.new) buffer.new) }
-    ensures stops { OnErr result (StopsNext (view_asked asked.now) seen.entry.now auditing.old.audit
+    ensures stops { OnErr result (StopsNext (view_asked asked.now) seen.entry.now auditing.old.audit tally.old.groups
         (W.contents writer.old) buffer.old (W.contents writer.new)) }
 {
     let alloc = auditing.alloc;
@@ -371,7 +384,8 @@ fn put_end<S: Reassembly + Drop, W: Write>(
     })
 }
 
-/// Prints the summary of what was counted, and what an audit could not judge, if it began.
+/// Prints the summary of what was counted, how many more of each group there were than are shown, and what an audit
+/// could not judge, if it began.
 fn put_closing<S: Reassembly + Drop, W: Write>(
     buffer: &mut Buffer,
     writer: &mut W,
@@ -382,13 +396,32 @@ fn put_closing<S: Reassembly + Drop, W: Write>(
 ) -> Result<(), Fault<Infallible>>
     ensures puts { (reports : List Report) (looked : Looked) → Counts tally.now reports looked
         → OnOk result (Sends (W.contents writer.old) buffer.old (W.contents writer.new)
-        buffer.new (closing_text form (ended_with audit.now looked) reports)) }
+        buffer.new (closing_text form (ended_with audit.now looked) tally.now.groups reports)) }
     ensures stops { (reports : List Report) (looked : Looked) → Counts tally.now reports looked
         → OnErr result (Stops (W.contents writer.old) buffer.old (W.contents writer.new)
-        (closing_text form (ended_with audit.now looked) reports)) }
+        (closing_text form (ended_with audit.now looked) tally.now.groups reports)) }
     ensures read { IfErr result (λ fault. fault ≡ CannotRead → ⊥) }
 {
     put_summary(buffer, writer, form, tally)?;
+    put_rest(buffer, writer, form, alloc, tally, audit)
+}
+
+/// Prints how many more of each group there were than are shown, and what an audit could not judge, if it began.
+fn put_rest<S: Reassembly + Drop, W: Write>(
+    buffer: &mut Buffer,
+    writer: &mut W,
+    form: Form,
+    alloc: Global,
+    tally: &Tally,
+    audit: &Option<Audit<S>>,
+) -> Result<(), Fault<Infallible>>
+    ensures ok { OnOk result (Sends (W.contents writer.old) buffer.old (W.contents writer.new)
+        buffer.new (groups_text form tally.now.groups ++ unjudged_text form tally.now.passed audit.now)) }
+    ensures err { OnErr result (Stops (W.contents writer.old) buffer.old (W.contents writer.new)
+        (groups_text form tally.now.groups ++ unjudged_text form tally.now.passed audit.now)) }
+    ensures read { IfErr result (λ fault. fault ≡ CannotRead → ⊥) }
+{
+    put_groups(buffer, writer, form, &tally.groups)?;
     put_unjudged(buffer, writer, form, alloc, tally.passed, audit)
 }
 
@@ -403,7 +436,7 @@ fn put_last<S: Reassembly + Drop, W: Write>(
 ) -> Result<(), Fault<Infallible>>
     ensures puts { OnOk result (PutsLast (view_asked asked.now) now audit.old audit.new tally.old tally.new
         (W.contents writer.old) buffer.old (W.contents writer.new) buffer.new) }
-    ensures stops { OnErr result (StopsLast (view_asked asked.now) now audit.old
+    ensures stops { OnErr result (StopsLast (view_asked asked.now) now audit.old tally.old.groups
         (W.contents writer.old) buffer.old (W.contents writer.new)) }
     ensures read { IfErr result (λ fault. fault ≡ CannotRead → ⊥) }
 {
@@ -414,16 +447,14 @@ fn put_last<S: Reassembly + Drop, W: Write>(
 }
 
 impl Gone {
-    /// Before the first record.
-    fn nothing() -> Gone
-        ensures counts { Counts result.tally [] none_looked }
-        ensures datagrams { result.datagrams ≡ 0 }
-        ensures now { result.now ≡ 0 }
+    /// Before the first record. Findings may be grouped.
+    fn nothing(alloc: Global, group: bool) -> Gone
+        ensures { IsNothing group result }
     {
         Gone {
             datagrams: 0,
             now: Moment::start(),
-            tally: Tally::new(),
+            tally: Tally::new(alloc, group),
         }
     }
 }

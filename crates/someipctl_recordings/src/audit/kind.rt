@@ -178,4 +178,11 @@ impl Kind {
     {
         self as usize
     }
+
+    /// The same number, as a key of a group has it.
+    pub(crate) fn code(self) -> u8
+        ensures { result ≡ kind_number self }
+    {
+        self as u8
+    }
 }

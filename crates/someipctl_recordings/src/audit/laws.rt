@@ -22,6 +22,9 @@ ghost use Rattle.someip_tables.specs.declared.hashed.Origin.{Origin};
 ghost use Rattle.someipctl_io.specs.declared.form.Form.TheVariants.{Json, Plain};
 ghost use Rattle.recording.specs.declared.Time.{Time};
 ghost use Rattle.recording_packets.specs.Intake.{ArrivalValue};
+ghost use Rattle.someipctl_recordings.specs.declared.audit.kind.Kind.TheVariants as kinds;
+ghost use Rattle.someipctl_recordings.specs.audit.Groupings.{grouped_line, line_of_kind};
+ghost use Rattle.someipctl_recordings.specs.audit.TextScenes.{late_group, moved_group, reboot_group};
 ghost use Rattle.someipctl_recordings.specs.audit.AskedAudits.{AskedAudit};
 ghost use Rattle.someipctl_recordings.specs.audit.AuditText.{due_line, finding_line, is_due_told, is_found_told, line_of};
 ghost use Rattle.someipctl_recordings.specs.audit.AuditText.{line_of_report, origin_of_due, report_lines, summary_text};
@@ -199,9 +202,10 @@ pub fn findings_are_told_by_what_they_name()
         (due.Unanswered unanswered_1) ≡ false }
 {}
 
-/// The lines of an audit are those of the findings that are told, in order, and no others.
+/// The lines of an audit are those of the findings that are told, in order, and no others, where findings are not
+/// grouped.
 pub fn lines_are_of_what_is_told()
-    ensures { (asked : AskedAudit) (arrivals : List ArrivalValue) (reports : List Report)
+    ensures { (asked : AskedAudit) (arrivals : List ArrivalValue) (reports : List Report) → asked.group ≡ false
         → report_lines asked arrivals reports
         ≡ flat_map (line_of_report asked arrivals) (told_of asked arrivals reports) }
 {}
@@ -232,6 +236,20 @@ pub fn a_summary_counts_by_kind()
         (found origin_1 (findings.Session (sessions.NotNext (record { session = 7; reboot = true })
         (record { session = 6; reboot = true }))) ∷ found origin_1 findings.EndpointsFull ∷ [])
         ≡ codes "{\"kind\":\"audited\",\"datagrams\":3,\"messages\":4,\"findings\":2}\n{\"kind\":\"sd-session\",\"count\":1}\n{\"kind\":\"full\",\"count\":1}\n" }
+{}
+
+/// The lines of groups in the summary, by example: with a method, without one, and of what names no service; and as an
+/// object.
+pub fn groups_are_summed_up()
+    ensures late { grouped_line Plain kinds.Late (record { key = late_group; more = 57 })
+        ≡ codes "late 1234.0421 192.168.0.1:40000 192.168.0.2:30490 57 more\n" }
+    ensures moved { grouped_line Plain kinds.OfferMoved (record { key = moved_group; more = 1 })
+        ≡ codes "offer moved 1234.- 192.168.0.1:40000 192.168.0.2:30490 1 more\n" }
+    ensures reboot { grouped_line Plain kinds.Reboot (record { key = reboot_group; more = 2 })
+        ≡ codes "reboot -.- 192.168.0.1:40000 192.168.0.2:30490 2 more\n" }
+    ensures object { grouped_line Json kinds.OfferMoved (record { key = moved_group; more = 1 })
+        ≡ codes "{\"kind\":\"offer-moved\",\"service\":\"1234\",\"method\":null,\"from\":\"192.168.0.1:40000\",\"to\":\"192.168.0.2:30490\",\"more\":1}\n" }
+    ensures other_kind { line_of_kind Plain kinds.Reboot (record { key = late_group; more = 57 }) ≡ [] }
 {}
 
 /// A recording has one audit: what is told of its datagrams, and how many of them and of their messages are

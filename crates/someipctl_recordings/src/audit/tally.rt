@@ -3,14 +3,16 @@
 //! Where 2^64 things were counted, the audit ends as where memory runs out: no recording has so many
 //! datagrams.
 ghost use Rattle.std.specs.Prelude.{◌≡◌, ◌≤◌, ◌<◌, ◌+◌, ◌^◌, [], IfOk, OnErr, OnOk};
+ghost use Rattle.someipctl_recordings.specs.audit.Groupings.{grouped, groups_begun, is_shown};
 ghost use Rattle.someipctl_recordings.specs.audit.SeenIn.{none_looked};
 ghost use Rattle.someipctl_recordings.specs.audit.Tallies.{Counts, most_looked, most_told, tally_after, tally_looked, tally_passed};
 
 use crate::audit::kind::{KIND_COUNT, Kind};
-use std::alloc::AllocError;
+use someip_audit::groups::{GroupBook, GroupKey};
+use std::alloc::{AllocError, Global};
 
 /// What an audit counted so far.
-#[derive(Clone, Copy)]
+#[derive(Drop)]
 pub(crate) struct Tally {
     /// How many datagrams were looked at.
     pub(crate) datagrams: usize,
@@ -24,12 +26,15 @@ pub(crate) struct Tally {
     pub(crate) findings: usize,
     /// How many of each kind, at its number.
     pub(crate) kinds: [usize; KIND_COUNT],
+    /// How many of each group, if findings are grouped.
+    pub(crate) groups: Option<GroupBook>,
 }
 
 impl Tally {
-    /// Nothing yet.
-    pub(crate) fn new() -> Tally
-        ensures { Counts result [] none_looked }
+    /// Nothing yet. Findings may be grouped.
+    pub(crate) fn new(alloc: Global, group: bool) -> Tally
+        ensures counts { Counts result [] none_looked }
+        ensures groups { result.groups ≡ groups_begun group }
     {
         Tally {
             datagrams: 0,
@@ -38,6 +43,18 @@ impl Tally {
             reports: 0,
             findings: 0,
             kinds: [0; KIND_COUNT],
+            groups: groups_begun(alloc, group),
+        }
+    }
+
+    /// Takes note of one more of a group, and says whether it is shown. The error is that memory ran out.
+    pub(crate) fn shows(&mut self, key: GroupKey) -> Result<bool, AllocError>
+        ensures shown { IfOk result (λ shown. shown ≡ is_shown self.old.groups key) }
+        ensures after { IfOk result (λ shown. self.new ≡ record self.old { groups = grouped key self.old.groups }) }
+    {
+        match &mut self.groups {
+            Some(groups) => groups.came(key),
+            None => Ok(true),
         }
     }
 
@@ -81,6 +98,17 @@ impl Tally {
         self.messages = self.messages.checked_add(messages).ok_or(AllocError)?;
         self.datagrams = datagrams;
         Ok(())
+    }
+}
+
+/// A book of groups, if findings are grouped.
+fn groups_begun(alloc: Global, group: bool) -> Option<GroupBook>
+    ensures { result ≡ groups_begun group }
+{
+    if group {
+        Some(GroupBook::new(alloc, 65536))
+    } else {
+        None
     }
 }
 

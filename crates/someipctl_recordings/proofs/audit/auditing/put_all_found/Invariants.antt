@@ -1,15 +1,13 @@
-use Rattle.std.proofs.Common.{drop, filter, map}
-use Rattle.std.specs.List.{flat_map}
+use Rattle.std.proofs.Common.{drop, map}
 use Rattle.someip_audit.specs.Audits.{found}
 use Rattle.someipctl_io.proofs.SendingLemmas.{IsSending}
 use Rattle.someipctl_recordings.specs.declared.audit.tally.Tally.{Tally}
 use Rattle.someipctl_recordings.specs.audit.AskedAudits.{view_asked}
-use Rattle.someipctl_recordings.specs.audit.AuditText.{found_line}
-use Rattle.someipctl_recordings.specs.audit.Steps.{CountsMore, is_told_at}
+use Rattle.someipctl_recordings.specs.audit.Steps.{CountsMore, lines_at, told_at}
 use Rattle.someipctl_recordings.proofs.audit.auditing.put_all_found.Given as goal
 
 -- the findings so far were printed, and counted
 abbrev pub invariant-loop-finding : goal.invariant-loop-finding
 invariant-loop-finding g l =
-    IsSending (g.W.Write.contents l.initial.writer) l.initial.buffer (g.W.Write.contents l.writer) l.buffer (flat_map (found_line (view_asked l.asked) l.time l.origin) (drop l.finding-index l.findings)) (flat_map (found_line (view_asked l.asked) l.time l.origin) l.findings)
-    × ((later : Tally) → CountsMore l.tally later (filter (is_told_at (view_asked l.asked) l.time) (map (found l.origin) (drop l.finding-index l.findings))) → CountsMore l.initial.tally later (filter (is_told_at (view_asked l.asked) l.time) (map (found l.origin) l.findings)))
+    IsSending (g.W.Write.contents l.initial.writer) l.initial.buffer (g.W.Write.contents l.writer) l.buffer (lines_at (view_asked l.asked) l.time l.tally.groups (map (found l.origin) (drop l.finding-index l.findings))) (lines_at (view_asked l.asked) l.time l.initial.tally.groups (map (found l.origin) l.findings))
+    × ((later : Tally) → CountsMore l.tally later (told_at (view_asked l.asked) l.time (map (found l.origin) (drop l.finding-index l.findings))) → CountsMore l.initial.tally later (told_at (view_asked l.asked) l.time (map (found l.origin) l.findings)))

@@ -9,7 +9,7 @@ use Rattle.someipctl_recordings.proofs.about_audit.StepLemmas.{on_ok_two, seen_e
 use Rattle.someipctl_recordings.proofs.audit.auditing.put_seen.Goals as goal
 
 pub returns-in_err-put_due-clause-stops : goal.returns-in_err-put_due-clause-stops
-returns-in_err-put_due-clause-stops g c = OnErr-any c.from_residual.result (seen_stop_due (view_asked c.args.asked.now) c.args.seen.now.time (view_seen c.args.seen.now) _ _ _ _ c.in_err-put_due.ensures.stops)
+returns-in_err-put_due-clause-stops g c = OnErr-any c.from_residual.result (seen_stop_due (view_asked c.args.asked.now) c.args.seen.now.time (view_seen c.args.seen.now) _ _ _ _ _ c.in_err-put_due.ensures.stops)
 
 pub returns-in_err-messages-clause-stops : goal.returns-in_err-messages-clause-stops
 returns-in_err-messages-clause-stops g c = OnErr-any c.from_residual-in_err-messages.result (seen_stop (view_asked c.args.asked.now) c.args.seen.now.time (view_seen c.args.seen.now) _ _ _ _ _ _ _ _ c.in_ok-put_due.ensures.puts)
@@ -35,6 +35,7 @@ returns-clause-stops g c =
     let shown = ap (λ (w : Work). w.told) work in
     let left = ap (λ (w : Work). w.held) work in
     let err = rw c.deref.ensures.value at c.put_all_found.ensures.err in
+    let looked = c.in_ok-look.ensures.looked ∙ ap (λ n. tally_looked n c.put_due.new.tally) c.in_ok-messages.ensures.count in
     on_err_weaker c.put_all_found.result
-    (seen_stop_found (view_asked c.args.asked.now) c.args.seen.now.time (view_seen c.args.seen.now) _ _ _ _ _ _ _ _ _ _ c.saw.new.findings.items c.in_ok-put_due.ensures.puts shown left)
+    (seen_stop_found (view_asked c.args.asked.now) c.args.seen.now.time (view_seen c.args.seen.now) _ _ _ _ _ _ _ _ _ _ _ c.saw.new.findings.items c.in_ok-put_due.ensures.puts shown left looked)
     err

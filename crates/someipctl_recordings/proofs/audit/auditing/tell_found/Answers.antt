@@ -1,23 +1,28 @@
-use Rattle.std.proofs.Common.{[], ap, sym, subst, ◌∙◌}
+use Rattle.std.proofs.Common.{◌∷◌, [], ap, sym, ◌∙◌}
 use Rattle.someip_audit.specs.Audits.{found}
 use Rattle.someipctl_io.proofs.SendingLemmas.{OnErr-any}
 use Rattle.someipctl_recordings.specs.audit.AskedAudits.{view_asked}
-use Rattle.someipctl_recordings.specs.audit.AuditText.{finding_line, is_found_told}
-use Rattle.someipctl_recordings.specs.audit.Steps.{CountsMore}
+use Rattle.someipctl_recordings.specs.audit.AuditText.{kind_of}
+use Rattle.someipctl_recordings.specs.audit.Groupings.{grouped}
+use Rattle.someipctl_recordings.specs.audit.Steps.{lines_at}
 use Rattle.someipctl_recordings.specs.audit.Tallies.{tally_after}
-use Rattle.someipctl_recordings.proofs.about_audit.StepLemmas.{counts_cons, counts_none}
-use Rattle.someipctl_recordings.proofs.about_audit.ToldLemmas.{stops_passed, told_one}
+use Rattle.someipctl_recordings.proofs.about_audit.ToldLemmas.{stops_any, told_counts}
 use Rattle.someipctl_recordings.proofs.audit.auditing.tell_found.Goals as goal
 
 pub returns-in_err-pass-clause-err : goal.returns-in_err-pass-clause-err
 returns-in_err-pass-clause-err g c =
-    let passed = sym c.is_found_told.ensures ∙ c.if-not-is_found_told.true in
     OnErr-any c.from_residual.result
-    (stops_passed (is_found_told (view_asked c.args.asked.now) c.args.time c.args.origin.now c.args.finding.now) (finding_line c.args.asked.now.form c.args.asked.now.frames c.args.time c.args.origin.now c.args.finding.now) passed (g.W.Write.contents c.args.writer.now) c.args.buffer.now)
+    (stops_any (g.W.Write.contents c.args.writer.now) c.args.buffer.now (lines_at (view_asked c.args.asked.now) c.args.time c.args.tally.now.groups (found c.args.origin.now c.args.finding.now ∷ [])))
+
+pub returns-in_err-is_shown-clause-err : goal.returns-in_err-is_shown-clause-err
+returns-in_err-is_shown-clause-err g c =
+    OnErr-any c.from_residual-in_err-is_shown.result
+    (stops_any (g.W.Write.contents c.args.writer.now) c.args.buffer.now (lines_at (view_asked c.args.asked.now) c.args.time c.args.tally.now.groups (found c.args.origin.now c.args.finding.now ∷ [])))
 
 pub returns-clause-counts : goal.returns-clause-counts
 returns-clause-counts g c =
-    let told = sym c.is_found_told.ensures ∙ c.if-not-is_found_told.false in
-    let counted = c.in_ok-tell.ensures.counted ∙ ap (λ k. tally_after k c.args.tally.now) c.in_ok-kind.ensures.0 in
-    subst (CountsMore c.args.tally.now c.tell.new.self) (told_one (is_found_told (view_asked c.args.asked.now) c.args.time c.args.origin.now c.args.finding.now) (found c.args.origin.now c.args.finding.now) told)
-    (counts_cons c.args.tally.now c.tell.new.self c.tell.new.self (found c.args.origin.now c.args.finding.now) [] counted (counts_none c.tell.new.self))
+    let tally = c.args.tally.now in
+    let report = found c.args.origin.now c.args.finding.now in
+    let grouped_so = c.in_ok-is_shown.ensures.after ∙ ap (λ key. record tally { groups = grouped key tally.groups }) c.group_of_found.ensures in
+    told_counts (view_asked c.args.asked.now) c.args.time tally c.tell.new.self report (sym c.is_found_told.ensures ∙ c.if-not-is_found_told.false)
+    (c.in_ok-tell.ensures.counted ∙ ap (λ kind. tally_after kind c.shows.new.self) c.kind_of.ensures ∙ ap (tally_after (kind_of report)) grouped_so)

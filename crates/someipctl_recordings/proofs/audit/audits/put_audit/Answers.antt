@@ -13,9 +13,9 @@ use Rattle.someipctl_recordings.proofs.audit.audits.put_audit.Goals as goal
 pub loop-file-init : goal.loop-file-init
 loop-file-init g c = (
   rw c.requires.first
-      (audited_begin (view_asked c.args.asked.now) (map g.R.Read.remaining c.args.sources.now) c.new-recording.result (g.W.Write.contents c.args.writer.now) c.args.buffer.now c.args.auditing.now.audit c.nothing-gone.result c.new-intake.result
-      c.new-recording.ensures c.requires.empty c.requires.begun c.nothing-gone.ensures.counts c.nothing-gone.ensures.datagrams c.nothing-gone.ensures.now c.new-intake.ensures),
-  rw c.nothing-gone.ensures.datagrams (omega arith),
+      (audited_begin (view_asked c.args.asked.now) (map g.R.Read.remaining c.args.sources.now) c.new-recording.result (g.W.Write.contents c.args.writer.now) c.args.buffer.now c.args.auditing.now.audit c.args.gone.now c.new-intake.result
+      c.new-recording.ensures c.requires.empty c.requires.begun c.requires.nothing c.new-intake.ensures),
+  rw c.requires.nothing.datagrams (omega arith),
 )
 
 pub returns-in_err-coming-clause-begun : goal.returns-in_err-coming-clause-begun

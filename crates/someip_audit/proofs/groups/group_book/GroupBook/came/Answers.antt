@@ -1,0 +1,24 @@
+use Rattle.std.proofs.Common.{true, false, sym, ap, ◌∙◌}
+use Rattle.std.specs.Option.{is_some}
+use Rattle.someip_audit.proofs.about_groups.GroupLemmas.{len_is, may_is}
+use Rattle.someip_audit.proofs.groups.group_book.GroupBook.came.Goals as goal
+
+pub returns-then-not-may_hold-clause-told : goal.returns-then-not-may_hold-clause-told
+returns-then-not-may_hold-clause-told c =
+    let may = may_is c.self.inside.numbers c.args.key c.self.inside.room.limit c.len.result c.is_some.result c.may_hold.result (len_is c.self.inside.numbers c.len.result c.len.ensures.len c.len.ensures.ordered) (c.is_some.ensures ∙ ap is_some c.value_at-before.ensures) c.may_hold.ensures in
+    rw (← c.self.view_is, sym may ∙ c.if-not-may_hold.true)
+
+pub returns-then-not-may_hold-clause-after : goal.returns-then-not-may_hold-clause-after
+returns-then-not-may_hold-clause-after c =
+    let may = may_is c.self.inside.numbers c.args.key c.self.inside.room.limit c.len.result c.is_some.result c.may_hold.result (len_is c.self.inside.numbers c.len.result c.len.ensures.len c.len.ensures.ordered) (c.is_some.ensures ∙ ap is_some c.value_at-before.ensures) c.may_hold.ensures in
+    rw (← c.self.view_is, sym may ∙ c.if-not-may_hold.true)
+
+pub returns-clause-told : goal.returns-clause-told
+returns-clause-told c =
+    let may = may_is c.self.inside.numbers c.args.key c.self.inside.room.limit c.len.result c.is_some.result c.may_hold.result (len_is c.self.inside.numbers c.len.result c.len.ensures.len c.len.ensures.ordered) (c.is_some.ensures ∙ ap is_some c.value_at-before.ensures) c.may_hold.ensures in
+    rw (← c.self.view_is, sym may ∙ c.if-not-may_hold.false, c.number_of-number.ensures, c.value_at-before.ensures)
+
+pub returns-clause-after : goal.returns-clause-after
+returns-clause-after c =
+    let may = may_is c.self.inside.numbers c.args.key c.self.inside.room.limit c.len.result c.is_some.result c.may_hold.result (len_is c.self.inside.numbers c.len.result c.len.ensures.len c.len.ensures.ordered) (c.is_some.ensures ∙ ap is_some c.value_at-before.ensures) c.may_hold.ensures in
+    rw (← c.self.view_is, sym may ∙ c.if-not-may_hold.false, c.in_ok-put_value.ensures.ok, c.one_more.ensures, c.number_of-number.ensures, c.value_at-before.ensures)

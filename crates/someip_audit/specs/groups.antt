@@ -1,0 +1,4 @@
+pub mod GroupKeys
+pub mod GroupOrder
+pub mod GroupTables
+pub mod GroupHistories
