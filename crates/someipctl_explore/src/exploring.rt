@@ -23,7 +23,6 @@ struct Told {
 
 /// Tries the schedules that begin with the steps of a text and go on by moves, over the nodes of a setup, and
 /// then writes the first that reaches the goal, or that none does.
-#[tactic(auto, using(crate::proofs::CommandLemmas::partly))]
 pub fn explore_schedules<W: Write>(
     alloc: Global,
     setup: &Setup,
