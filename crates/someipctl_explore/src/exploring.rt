@@ -7,7 +7,7 @@ ghost use Rattle.someipctl_explore.specs.Commands.{Explores, ExploresPartly, Has
 
 use crate::result_texts::{exploration_text, outcome_of};
 use someip_explore::{Goal, Limits, Move, explore};
-use someip_tp::IntervalPool;
+use someip_tp::SegmentList;
 use someip_world::{RunError, ScheduleError, Setup, Step, read_schedule, run};
 use someipctl_io::{CannotWrite, Fault, Outcome, write_text};
 use someipctl_run::ScheduleRefusal;
@@ -23,7 +23,6 @@ struct Told {
 
 /// Tries the schedules that begin with the steps of a text and go on by moves, over the nodes of a setup, and
 /// then writes the first that reaches the goal, or that none does.
-#[tactic(auto, using(crate::proofs::CommandLemmas::partly))]
 pub fn explore_schedules<W: Write>(
     alloc: Global,
     setup: &Setup,
@@ -64,7 +63,7 @@ fn explored(
 {
     let beginning = beginning_of(alloc, setup, text)?;
     let done = beginning.len();
-    let found = explore::<IntervalPool>(alloc, setup, beginning, moves, goal, limits)?;
+    let found = explore::<SegmentList>(alloc, setup, beginning, moves, goal, limits)?;
     let text = exploration_text(alloc, done, limits, &found)?;
     let outcome = outcome_of(&found);
     Ok(Told { text, outcome })
@@ -80,7 +79,7 @@ fn beginning_of(
     ensures refused { IfErr result (RefusesTrace setup.now.nodes text.now) }
 {
     let steps = read_schedule(alloc, text).map_err(fault_of_schedule)?;
-    let _trace = run::<IntervalPool>(alloc, setup, &steps).map_err(fault_of_run)?;
+    let _trace = run::<SegmentList>(alloc, setup, &steps).map_err(fault_of_run)?;
     Ok(steps)
 }
 
