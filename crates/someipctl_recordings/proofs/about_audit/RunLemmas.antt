@@ -159,7 +159,7 @@ pub end_puts : (asked : AskedAudit) (gone : Gone) (audit ended : Option AuditSta
 end_puts asked gone audit ended later reports looked a held b waits c new shown puts counts summary outcome full =
     let last = last_ends asked gone.now audit ended gone.tally later a held b waits puts in
     let all = last.counts.0 reports looked counts in
-    let closing = λ g. closing_text asked.form (ended_with ended looked) g (reports ++ fell_told asked last.told) in
+    let closing : Option Groups → List ℕ = λ g. closing_text asked.form (ended_with ended looked) g (reports ++ fell_told asked last.told) in
     record {
       told = last.told;
       ended = ended;
@@ -175,7 +175,7 @@ pub end_stops : (asked : AskedAudit) (gone : Gone) (audit ended : Option AuditSt
     → ((all : List Report) → Counts later all looked → Stops b waits c (closing_text asked.form (ended_with ended looked) later.groups all)) → StopsEnd asked gone audit reports looked a held c
 end_stops asked gone audit ended later reports looked a held b waits c puts counts summary =
     let last = last_ends asked gone.now audit ended gone.tally later a held b waits puts in
-    let closing = λ g. closing_text asked.form (ended_with ended looked) g (reports ++ fell_told asked last.told) in
+    let closing : Option Groups → List ℕ = λ g. closing_text asked.form (ended_with ended looked) g (reports ++ fell_told asked last.told) in
     inr (record {
       told = last.told;
       ended = ended;

@@ -109,23 +109,43 @@ fn show_files<S: Reassembly + Drop, R: Read, W: Write>(
     ensures unread { IfErr result (λ fault. fault ≡ CannotRead → file.new < length sources.old) }
 {
     let mut buffer = Buffer::new(alloc)?;
+    let shown = put_files::<S, R, W>(alloc, sources, asked, file, &mut buffer, writer)?;
+    buffer.flush(writer)?;
+    Ok(shown)
+}
+
+/// Begins an audit, and prints that of files.
+fn put_files<S: Reassembly + Drop, R: Read, W: Write>(
+    alloc: Global,
+    sources: &mut [R],
+    asked: &AuditAsked<'_>,
+    file: &mut usize,
+    buffer: &mut Buffer,
+    writer: &mut W,
+) -> Result<ShownRecording, Fault<Infallible>>
+    requires first { file.old ≡ 0 }
+    requires empty { buffer.old ≡ [] }
+    ensures puts { IfOk result (λ shown. PutsAudit (map R.remaining sources.old) (view_asked asked.now)
+        shown (W.contents writer.old) (W.contents writer.new) buffer.new) }
+    ensures begun { OnErr result (BeginsAudit (map R.remaining sources.old) (view_asked asked.now)
+        (W.contents writer.old) (W.contents writer.new)) }
+    ensures unread { IfErr result (λ fault. fault ≡ CannotRead → file.new < length sources.old) }
+{
     let mut gone = Gone::nothing(alloc, asked.group);
     let mut auditing = Auditing::<S> {
         alloc,
         audit: None,
         findings: Vec::new(alloc),
     };
-    let shown = put_audit(
+    put_audit(
         sources,
         asked,
         file,
         &mut auditing,
         &mut gone,
-        &mut buffer,
+        buffer,
         writer,
-    )?;
-    buffer.flush(writer)?;
-    Ok(shown)
+    )
 }
 
 /// Prints the audit of files, one after the other.
