@@ -110,11 +110,12 @@ node does that still runs.";
 
 /// Of `explore`.
 pub(crate) const EXPLORE_EXAMPLE: &str = "\
-SETUP is that of `run`. MOVES has one move a line: a step of a schedule, or `deliver * NODE`, which
-stands for the delivery of each datagram that was sent so far. A schedule of N moves is any N of
-them, one after the other, each as often as you like; one with a step that can't happen is none.
-All schedules of up to N moves are tried, shorter ones first, and those of one length in the order
-of MOVES.
+SETUP is that of `run`. MOVES has one move a line: a step of a schedule, or a line with `*`. So
+`deliver * NODE` stands for the delivery of each datagram that was sent so far, `deliver * *` for
+those to all nodes, and `answer NODE * CODE PAYLOAD` for the answer to each token of NODE. A
+schedule of N moves is any N of them, one after the other, each as often as you like; one with a
+step that can't happen is none. All schedules of up to N moves are tried, shorter ones first, and
+those of one length in the order of MOVES.
 
 GOAL, and the WORDS of --once and --never, are the first words of a line of the trace, without its
 number: a node, and what it tells. A schedule reaches GOAL where a line has these words, and before
