@@ -54,7 +54,7 @@ pub fn calls_by_example()
         ≡ Some (recording_request (codes "x" ∷ []) (recording_options_of no_packets no_choice None None None
         (Some (codes "true")) None None None None None None)) }
     ensures audit_json { requested (line (codes "audit" ∷ codes "--json" ∷ codes "x" ∷ []))
-        ≡ Some (audit_request (codes "x" ∷ []) (audit_options_of no_packets no_choice None None (Some (codes "true"))
+        ≡ Some (audit_request (codes "x" ∷ []) (audit_options_of no_packets no_choice None None None (Some (codes "true"))
         None no_settings)) }
 
     ensures recording { requested (line (codes "recording" ∷ codes "x" ∷ []))
