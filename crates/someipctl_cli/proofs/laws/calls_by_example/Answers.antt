@@ -21,7 +21,8 @@ returns c = record {
   files = refl;
   chart = refl;
   audit = refl;
-  audit_choice = refl; audit_group = refl;
+  audit_choice = refl;
+  audit_group = refl;
   audit_options = refl;
   bare_expect = ((λ e. cc), inl refl);
   twice = ((λ e. cc), inl refl);
