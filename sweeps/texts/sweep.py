@@ -1,10 +1,10 @@
 """The sweep `texts`: what the built program says of texts that are not quite right, by rows: of setups, types files,
-schedules, shapes, payloads and recordings, and of words that come to no command.
+schedules, searches, shapes, payloads and recordings, and of words that come to no command.
 
     sweep.py PROGRAM
 
-Rows of texts that are not quite right, and what the program says of each: setups, types files, schedules, texts of
-shapes, payloads, recordings, and words that come to no command. A setup is run over a schedule without steps; most rows change
+Rows of texts that are not quite right, and what the program says of each: setups, types files, schedules, moves and
+goals of searches, texts of shapes, payloads, recordings, and words that come to no command. A setup is run over a schedule without steps; most rows change
 one place of the worked setup, and those of `in_order` put fault after fault into a setup with every key (but `liar`,
 which a row adds), so that each is told before all that stand there already. A types file shows a request, whose value
 is told where the file has a table. Each row stands in a file of `sweeps/texts`.
@@ -23,6 +23,7 @@ from payloads import FAULTS, TAGGED_FAULTS, bad_shapes, deep_shapes
 from printed import fronts_of, printed_values
 from recordings import recordings
 from schedule_rows import schedules
+from searches import searches
 from setups import setups
 from types_files import types
 from words import HELP, USAGE, values
@@ -73,6 +74,12 @@ def is_types(program, data, wanted):
 def is_schedule(program, data, bad_line):
     """A schedule is refused by its first bad line."""
     return said_of(program, data, ["run", str(SETUP)]) == (1, "", f"line {bad_line}: bad step\n")
+
+
+def is_search(program, setup, options, moves, goal, told):
+    """A search is refused before anything is tried."""
+    words = ["explore", *options, str(SETUP.with_name(setup))]
+    return said_of(program, moves, words, goal) == (1, "", f"{told}\n")
 
 
 def is_bad_shape(program, text, place):
@@ -140,6 +147,7 @@ PARTS = {
     "setup": (is_setup, setups()),
     "types file": (is_types, types()),
     "schedule": (is_schedule, schedules()),
+    "search": (is_search, tuple(searches())),
     "shape": (is_bad_shape, bad_shapes()),
     "deep shape": (is_shape, [(text,) for text in deep_shapes()]),
     "payload": (is_fault, (*FAULTS, *TAGGED_FAULTS)),
