@@ -194,15 +194,7 @@ fn put_audit<S: Reassembly + Drop, R: Read, W: Write>(
             }
         }
         if let Some(found) = recording.record() {
-            put_record(
-                buffer,
-                writer,
-                asked,
-                &found,
-                &mut intake,
-                auditing,
-                gone,
-            )?;
+            put_record(buffer, writer, asked, &found, &mut intake, auditing, gone)?;
         }
     }
     put_end(

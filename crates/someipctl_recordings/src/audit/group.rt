@@ -34,7 +34,11 @@ pub(crate) fn group_of_found(origin: &Origin, finding: &Finding) -> GroupKey
 pub(crate) fn group_of_due(told: &FellDue) -> GroupKey
     ensures { result ≡ group_of (fell told.now) }
 {
-    group_key(kind_of_due(told), Some(subject_of_due(told)), &origin_of_due(told))
+    group_key(
+        kind_of_due(told),
+        Some(subject_of_due(told)),
+        &origin_of_due(told),
+    )
 }
 
 /// The group of what is of a kind, and about a subject, where its datagram has this origin.

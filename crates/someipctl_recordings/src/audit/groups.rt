@@ -189,7 +189,14 @@ fn plain_fields(one: &Grouped) -> [Field<'static>; 6]
     ensures { map view_field result ≡ group_fields one.now ++ field (codes " more") (codes "rest") mark ∷ [] }
 {
     let [service, method, from, to, more] = group_fields(one);
-    [service, method, from, to, more, field_of(" more", "rest", Said::Mark)]
+    [
+        service,
+        method,
+        from,
+        to,
+        more,
+        field_of(" more", "rest", Said::Mark),
+    ]
 }
 
 /// An ID of 16 bits, if there is one.
