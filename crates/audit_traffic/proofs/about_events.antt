@@ -9,3 +9,4 @@ pub mod CameLemmas
 pub mod SawLemmas
 pub mod SinceLemmas
 pub mod ReasonLemmas
+pub mod CountLemmas

@@ -7,7 +7,7 @@ use Rattle.std.specs.declared.net.ipv4_addr.Ipv4Addr.{Ipv4Addr}
 use Rattle.someip_tables.proofs.ChangedLemmas.{get-changed}
 use Rattle.someip_tables.proofs.Entries.{same_by_test}
 use Rattle.someip_tables.specs.Sessions.{next_session}
-use Rattle.someip_tables.specs.hashed.Rooms.{may_hold, told_when_full}
+use Rattle.someip_tables.specs.hashed.Rooms.{told_when_full}
 use Rattle.audit_traffic.specs.declared.events.flow.EventFlow.{EventFlow}
 use Rattle.audit_traffic.specs.declared.events.last_event.LastEvent.{LastEvent}
 use Rattle.audit_traffic.specs.declared.events.notification.Notification.{Notification}
@@ -15,7 +15,7 @@ use Rattle.audit_traffic.specs.declared.events.finding.Finding.TheVariants.{Behi
 use Rattle.audit_traffic.specs.events.FlowKeys.{flow_cmp}
 use Rattle.audit_traffic.specs.events.FlowOrder.{flows_total, exact_flows}
 use Rattle.audit_traffic.specs.events.EventRules.{disturbed, is_at, is_behind, is_between, is_loss, is_of_service, is_other, judged, past, renewed}
-use Rattle.audit_traffic.specs.events.EventTables.{Events, Flows, after_event, flows_after, told_by}
+use Rattle.audit_traffic.specs.events.EventTables.{Events, Flows, after_event, flows_after, may_take, told_by}
 use Rattle.audit_traffic.specs.events.EventHistories.{BeganAgain, Came, Changed, Shown, Since, Withdrawn, book_after, book_of, kept_of, shown_after, shown_since, since_after, since_disturbed, since_event, since_got, since_in}
 use Rattle.audit_traffic.proofs.about_events.FlowLemmas.{not_its_own}
 use Rattle.audit_traffic.proofs.about_events.NearestLemmas.{nearest_tells}
@@ -81,7 +81,7 @@ get-without address flows flow before is =
 -- ---- whether a book is full
 
 full_stays_after : (event : Notification) (book : Events) → book.told_full ≡ true → (after_event event book).told_full ≡ true
-full_stays_after event book is = cases (event.session == 0) (may_hold book.limit book.flows event.flow)
+full_stays_after event book is = cases (event.session == 0) (may_take book.limit event.flow book.flows)
   where
     cases : (a b : Bool) → (if a then book else if b then record book { flows = flows_after event book.flows } else record book { told_full = true }).told_full ≡ true
     cases true b = is
@@ -122,7 +122,7 @@ kept limit (shown ∷ earlier) fits flow = by shown fits (kept limit earlier (no
 
     by : (one : Shown) → (book_after one (book_of limit earlier)).told_full ≡ false → ((f : EventFlow) → finite.get (book_of limit earlier).flows f ≡ option_map kept_of (since_in earlier f))
         → finite.get (book_after one (book_of limit earlier)).flows flow ≡ option_map kept_of (since_after one flow (since_in earlier flow))
-    by (Came event) still before = by_event event (event.session == 0) (may_hold (book_of limit earlier).limit (book_of limit earlier).flows event.flow) still before
+    by (Came event) still before = by_event event (event.session == 0) (may_take (book_of limit earlier).limit event.flow (book_of limit earlier).flows) still before
     by (Changed client server) still before =
         get-changed flows_total exact_flows (λ f last. if is_between client server f then disturbed last else last) (book_of limit earlier).flows flow
         ∙ get-disturbed (is_between client server) (book_of limit earlier).flows flow (since_in earlier flow) (before flow)
@@ -142,7 +142,7 @@ judged_is (Some since) session =
 pub told : (limit : ℕ) (shown : List Shown) (event : Notification) → (book_of limit (Came event ∷ shown)).told_full ≡ false → told_by event (book_of limit shown) ≡ shown_after shown event
 told limit shown event fits =
     let before : (book_of limit shown).told_full ≡ false = not_before (Came event) (book_of limit shown) fits in
-    cases (event.session == 0) (may_hold (book_of limit shown).limit (book_of limit shown).flows event.flow) before fits
+    cases (event.session == 0) (may_take (book_of limit shown).limit event.flow (book_of limit shown).flows) before fits
   where
     cases : (a b : Bool) → (book_of limit shown).told_full ≡ false
         → (if a then book_of limit shown else if b then record (book_of limit shown) { flows = flows_after event (book_of limit shown).flows } else record (book_of limit shown) { told_full = true }).told_full ≡ false
@@ -165,7 +165,7 @@ not_full losses (Some last) session is = cases (session == last.session) (is_beh
     cases false false false e = cc
 
 pub full_noted : (event : Notification) (book : Events) → told_by event book ≡ Some Full → (book.told_full ≡ false) × ((after_event event book).told_full ≡ true)
-full_noted event book is = cases (event.session == 0) (may_hold book.limit book.flows event.flow) book.told_full refl is
+full_noted event book is = cases (event.session == 0) (may_take book.limit event.flow book.flows) book.told_full refl is
   where
     cases : (a b t : Bool) → book.told_full ≡ t → (if a then None else if b then judged (not t) (finite.get book.flows event.flow) event.session else told_when_full Full t) ≡ Some Full
         → (t ≡ false) × ((if a then book else if b then record book { flows = flows_after event book.flows } else record book { told_full = true }).told_full ≡ true)
@@ -178,7 +178,7 @@ pub full_kept : (event : Notification) (book : Events) → book.told_full ≡ tr
 full_kept event book is = full_stays_after event book is
 
 pub no_gap : (session expected : ℕ) (event : Notification) (book : Events) → book.told_full ≡ true → told_by event book ≡ Some (Gap session expected) → ⊥
-no_gap session expected event book full is = cases (event.session == 0) (may_hold book.limit book.flows event.flow) (finite.get book.flows event.flow) (rw full at is)
+no_gap session expected event book full is = cases (event.session == 0) (may_take book.limit event.flow book.flows) (finite.get book.flows event.flow) (rw full at is)
   where
     cases : (a b : Bool) (v : Option LastEvent) → (if a then None else if b then judged false v event.session else None) ≡ Some (Gap session expected) → ⊥
     cases true b v e = cc

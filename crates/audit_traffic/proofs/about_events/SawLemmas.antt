@@ -1,19 +1,18 @@
 -- What a book makes of an event.
-use Rattle.std.proofs.Common.{◌≡◌, ℕ, ◌<◌, ◌==◌, nat_lt, Bool, true, false, cond, ◌||◌, if◌then◌else◌, Option, None, Some, is_some, IfSome, refl, ap, sym, ◌∙◌, arith}
+use Rattle.std.proofs.Common.{◌≡◌, ℕ, ◌==◌, Bool, true, false, cond, ◌||◌, if◌then◌else◌, Option, None, Some, IfSome, refl, ap, sym, ◌∙◌}
 use Rattle.std.specs.Cmp.{eq_by_cmp_equiv}
 use Rattle.std.specs.FinMap as finite
 use Rattle.std.specs.Option.{option_map}
 use Rattle.std.specs.Ordering.{eq_by_cmp}
-use Rattle.std.proofs.lemmas.Bool.{eq-eqb, eqb-true, lt-ltb}
+use Rattle.std.proofs.lemmas.Bool.{eq-eqb, eqb-true}
 use Rattle.someip_tables.specs.Changed.{each_changed}
 use Rattle.someip_tables.proofs.ChangedLemmas.{get-changed}
 use Rattle.someip_tables.proofs.Entries.{own_test, same_by_test}
-use Rattle.someip_tables.specs.hashed.Rooms.{may_hold}
 use Rattle.audit_traffic.specs.declared.events.flow.EventFlow.{EventFlow}
 use Rattle.audit_traffic.specs.declared.events.last_event.LastEvent.{LastEvent}
 use Rattle.audit_traffic.specs.declared.events.notification.Notification.{Notification}
 use Rattle.audit_traffic.specs.events.EventRules.{is_other, past, renewed}
-use Rattle.audit_traffic.specs.events.EventTables.{Events, Flows, after_event, flows_after}
+use Rattle.audit_traffic.specs.events.EventTables.{Events, Flows, after_event, flows_after, may_take}
 use Rattle.audit_traffic.specs.events.FlowGroups.{once_came}
 use Rattle.audit_traffic.specs.events.FlowKeys.{flow_cmp}
 use Rattle.audit_traffic.specs.events.FlowOrder.{flows_total, exact_flows}
@@ -79,7 +78,7 @@ not_zero n other = cases (n == 0) refl
     cases false is = refl
 
 -- the book once one came that may be held
-pub held_event : (event : Notification) (book : Events) (flows : Flows) → (event.session ≡ 0 → ⊥) → may_hold book.limit book.flows event.flow ≡ true → flows ≡ flows_after event book.flows
+pub held_event : (event : Notification) (book : Events) (flows : Flows) → (event.session ≡ 0 → ⊥) → may_take book.limit event.flow book.flows ≡ true → flows ≡ flows_after event book.flows
     → (record book { flows = flows }) ≡ after_event event book
 held_event event book flows counted held is = rw (not_zero event.session counted, held) (λ i. record book { flows = is i })
 
@@ -95,6 +94,7 @@ known_then event flows added after had last absent is put found known =
     cases None n k = absurd (cc)
     cases (Some l) n k = k
 
-pub has_room : (limit n m : ℕ) (v : Option LastEvent) → n < limit → n ≡ m → (is_some v || nat_lt m limit) ≡ true
-has_room limit n m (Some l) full is = refl
-has_room limit n m None full is = lt-ltb m limit (omega (arith, full, is))
+-- one for whose flow there is room may be held
+pub taken_then : (known : Bool) (room : Bool) → room ≡ true → (known || room) ≡ true
+taken_then true room is = refl
+taken_then false room is = is

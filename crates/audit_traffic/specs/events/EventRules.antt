@@ -36,7 +36,11 @@ is_nearer (Some nearest) distance = nat_lt nearest distance
 
 -- ---- flows
 
--- two flows are of one event of one sender, to two receivers
+-- two flows are of one event of one sender
+abbrev pub is_alike : EventFlow → EventFlow → Bool
+is_alike flow other = eq_by_cmp endpoint_cmp flow.sender other.sender && ((flow.service == other.service) && (flow.event == other.event))
+
+-- and they are to two receivers
 abbrev pub is_other : EventFlow → EventFlow → Bool
 is_other flow other =
     eq_by_cmp endpoint_cmp flow.sender other.sender && ((flow.service == other.service) && ((flow.event == other.event) && not (eq_by_cmp endpoint_cmp flow.receiver other.receiver)))

@@ -1,18 +1,19 @@
 -- The last event of each flow.
-use Rattle.std.specs.Prelude.{ℕ, ◌==◌, nat_lt, Bool, true, not, ◌&&◌, if◌then◌else◌, Option, None, refl}
-use Rattle.std.specs.Option.{is_none}
+use Rattle.std.specs.Prelude.{ℕ, ◌==◌, nat_lt, Bool, true, not, ◌&&◌, ◌||◌, if◌then◌else◌, Option, None, refl}
+use Rattle.std.specs.Option.{is_none, is_some}
 use Rattle.std.specs.Coded.{Coded, code_by, coded×, coded_ℕ, coded_bool, coded_option}
 use Rattle.std.specs.FinMap as finite
 use Rattle.std.specs.FinMap.{FinMap}
 use Rattle.std.specs.declared.net.ipv4_addr.Ipv4Addr.{Ipv4Addr}
 use Rattle.someip_tables.specs.Changed.{each_changed}
-use Rattle.someip_tables.specs.hashed.Rooms.{may_hold, told_when_full}
+use Rattle.someip_tables.specs.hashed.Rooms.{told_when_full}
+use Rattle.audit_traffic.specs.declared.events.flow.EventFlow.{EventFlow}
 use Rattle.audit_traffic.specs.declared.events.last_event.LastEvent.{LastEvent}
 use Rattle.audit_traffic.specs.declared.events.notification.Notification.{Notification}
 use Rattle.audit_traffic.specs.declared.events.finding.Finding.{Finding}
 use Rattle.audit_traffic.specs.declared.events.finding.Finding.TheVariants.{Full}
 use Rattle.audit_traffic.specs.events.FlowKeys.{flow_cmp, coded_flow}
-use Rattle.audit_traffic.specs.events.EventRules.{disturbed, is_at, is_between, is_of_service, is_other, judged, past, renewed}
+use Rattle.audit_traffic.specs.events.EventRules.{disturbed, is_alike, is_at, is_between, is_of_service, is_other, judged, past, renewed}
 
 -- the last event of each flow
 abbrev pub Flows : Type 0
@@ -24,11 +25,23 @@ pub record Events : Type 0 where
   pub flows : Flows
   pub told_full : Bool
 
+-- to how many receivers an event of a sender is known to go
+abbrev pub receivers_of : EventFlow → Flows → ℕ
+receivers_of flow flows = finite.len (finite.retain_keys flows (is_alike flow))
+
+-- there is room for a flow: fewer than the limit are known, and fewer than 256 receivers of its event
+abbrev pub has_room : ℕ → EventFlow → Flows → Bool
+has_room limit flow flows = nat_lt (finite.len flows) limit && nat_lt (receivers_of flow flows) 256
+
+-- a flow may be held: it is known, or there is room for it
+abbrev pub may_take : ℕ → EventFlow → Flows → Bool
+may_take limit flow flows = is_some (finite.get flows flow) || has_room limit flow flows
+
 -- what is told of an event: of one without a session nothing, and a loss only where the book was never full
 abbrev pub told_by : Notification → Events → Option Finding
 told_by event book =
     if event.session == 0 then None
-    else if may_hold book.limit book.flows event.flow then judged (not book.told_full) (finite.get book.flows event.flow) event.session
+    else if may_take book.limit event.flow book.flows then judged (not book.told_full) (finite.get book.flows event.flow) event.session
     else told_when_full Full book.told_full
 
 -- the other flows of an event, once one came
@@ -43,7 +56,7 @@ flows_after event flows = others_past event (finite.insert flows event.flow (ren
 abbrev pub after_event : Notification → Events → Events
 after_event event book =
     if event.session == 0 then book
-    else if may_hold book.limit book.flows event.flow then record book { flows = flows_after event book.flows }
+    else if may_take book.limit event.flow book.flows then record book { flows = flows_after event book.flows }
     else record book { told_full = true }
 
 -- once a subscription of a client at a server changed
@@ -60,7 +73,7 @@ without address book = record book { flows = finite.retain_keys book.flows (λ f
 
 -- memory may be wanted for an event: its flow is new, and there is room for it
 abbrev pub needs_memory : Notification → Events → Bool
-needs_memory event book = is_none (finite.get book.flows event.flow) && (nat_lt (finite.len book.flows) book.limit && not (event.session == 0))
+needs_memory event book = is_none (finite.get book.flows event.flow) && (has_room book.limit event.flow book.flows && not (event.session == 0))
 
 -- ---- codes, by which a proof tells values apart
 

@@ -1,10 +1,11 @@
 //! The last event of each flow.
-ghost use Rattle.std.specs.Prelude.{◌≡◌, IfOk, OnErr, true, false};
+ghost use Rattle.std.specs.Prelude.{◌≡◌, ◌<◌, IfOk, OnErr, true, false};
 ghost use Rattle.std.specs.FinMap as finite;
 ghost use Rattle.audit_traffic.specs.events.EventTables.{after_change, after_event, after_withdrawal};
-ghost use Rattle.audit_traffic.specs.events.EventTables.{needs_memory, told_by, without};
+ghost use Rattle.audit_traffic.specs.events.EventTables.{has_room, needs_memory, told_by, without};
 
 use crate::events::finding::Finding;
+use crate::events::flow::EventFlow;
 use crate::events::flow_table::FlowTable;
 use crate::events::notification::Notification;
 use crate::events::steps::{judge, renewed};
@@ -12,6 +13,9 @@ use someip_tables::hashed::Room;
 use std::alloc::{AllocError, Global};
 use std::marker::Model;
 use std::net::Ipv4Addr;
+
+/// The most receivers of one event of one sender: each event of it looks at them all.
+const MOST_RECEIVERS: usize = 256;
 
 /// The last event of each flow, as far as a recording was read.
 #[derive(Drop)]
@@ -37,7 +41,8 @@ impl Model for EventBook {
 }
 
 impl EventBook {
-    /// A book that holds at most so many flows, and none yet. It takes no memory.
+    /// A book that holds at most so many flows, of one event of one sender 256, and none yet. It takes no
+    /// memory.
     pub fn new(alloc: Global, limit: usize) -> EventBook
         ensures { result ≡ record { limit = limit; flows = finite.empty; told_full = false } }
     {
@@ -66,7 +71,7 @@ impl EventBook {
         if let Some(last) = self.flows.came(&event) {
             return Ok(judge(!self.room.told_full, Some(last), event.session));
         }
-        if self.room.limit <= self.flows.len() {
+        if !self.has_room(&event.flow) {
             return Ok(self.room.tell_full(Finding::Full));
         }
         self.flows.add(&event.flow, renewed(event.session, None))?;
@@ -97,6 +102,14 @@ impl EventBook {
         ensures { self.new ≡ without address self.old }
     {
         self.flows.forget(address);
+    }
+
+    /// Whether there is room for a flow.
+    fn has_room(&self, flow: &EventFlow) -> bool
+        ensures room { result ≡ has_room self.now.limit flow.now self.now.flows }
+        ensures fits { result ≡ true → finite.len self.now.flows < usize.MAX }
+    {
+        self.flows.len() < self.room.limit && self.flows.receivers(flow) < MOST_RECEIVERS
     }
 
     /// How many flows there are.

@@ -16,7 +16,7 @@ pub enum Finding {
         /// The session after that of the last one.
         expected: u16,
     },
-    /// The book holds as many flows as it may, so this one is not taken. It is told once in the life of a
+    /// The book holds as many flows as it may, of all or of the event, so this one is not taken. It is told once in the life of a
     /// book, and from then on no gap is told: an event of a flow that was not taken is not seen as got by
     /// another receiver.
     Full,

@@ -4,6 +4,7 @@ ghost use Rattle.std.specs.FinMap as finite;
 ghost use Rattle.someip_tables.specs.Changed.{each_changed};
 ghost use Rattle.someip_tables.specs.Tables.{map_of};
 ghost use Rattle.audit_traffic.specs.events.EventRules.{is_at};
+ghost use Rattle.audit_traffic.specs.events.EventTables.{receivers_of};
 ghost use Rattle.audit_traffic.specs.events.FlowGroups.{once_came, once_changed, once_withdrawn};
 ghost use Rattle.audit_traffic.specs.events.FlowKeys.{flow_cmp};
 
@@ -56,6 +57,13 @@ impl FlowTable {
         ensures { result ≡ finite.len (map_of flow_cmp self.now) }
     {
         self.len
+    }
+
+    /// To how many receivers the event of a flow goes.
+    pub(crate) fn receivers(&self, flow: &EventFlow) -> usize
+        ensures { result ≡ receivers_of flow.now (map_of flow_cmp self.now) }
+    {
+        groups::receivers(&self.groups, flow)
     }
 
     /// An event came: it is the last of its flow, and the other receivers of its source are told, if its flow is

@@ -6,6 +6,7 @@ ghost use Rattle.std.specs.Map.{keys_of, lookup};
 ghost use Rattle.someip_tables.specs.Changed.{each_changed};
 ghost use Rattle.someip_tables.specs.Tables.{map_of};
 ghost use Rattle.audit_traffic.specs.events.EventRules.{is_at};
+ghost use Rattle.audit_traffic.specs.events.EventTables.{receivers_of};
 ghost use Rattle.audit_traffic.specs.events.FlowGroups.{AreFlows, changed_by, flow_to, flows_in, is_same_source, once_came};
 ghost use Rattle.audit_traffic.specs.events.FlowGroups.{once_changed, once_withdrawn};
 ghost use Rattle.audit_traffic.specs.events.FlowKeys.{flow_cmp};
@@ -141,6 +142,19 @@ pub(crate) fn forget(groups: &mut Groups, address: Ipv4Addr)
                 ≡ filter (λ r. not (is_at address (flow_to source.now r.endpoint))) group.old.items }
         { receivers::forget(source, group, address) },
     );
+}
+
+/// To how many receivers the event of a flow goes.
+pub(crate) fn receivers(groups: &Groups, flow: &EventFlow) -> usize
+    requires { AreFlows groups.now.entries }
+    ensures { result ≡ receivers_of flow.now (map_of flow_cmp (flows_in groups.now.entries)) }
+{
+    // No source stands twice in a map.
+    let _each = groups.values();
+    match groups.get(&EventSource::of(flow)) {
+        Some(receivers) => receivers.len(),
+        None => 0,
+    }
 }
 
 /// How many flows there are.

@@ -1,0 +1,96 @@
+//! Keys at their places.
+ghost use Rattle.std.specs.Prelude.{◌≡◌, ◌<◌, IfSome, IfNone, OnErr, OnOk, Some, if◌then◌else◌, length, true, false};
+ghost use Rattle.audit_index.specs.Slots.{is_same_slot, stands};
+
+use crate::place::{Place, Slot};
+use someip_tables::Key;
+use std::alloc::{AllocError, Global};
+use std::collections::BTreeSet;
+use std::marker::Model;
+use std::ops::Bound;
+
+/// Keys at their places, in order: the first key of a place is found among `n` keys in `log n` steps.
+#[derive(Drop)]
+pub struct Index<K: Key> {
+    slots: BTreeSet<Slot<K>>,
+}
+
+impl<K: Key> Model for Index<K> {
+    ghost use Rattle.std.specs.Prelude.{List};
+    ghost use Rattle.audit_index.specs.declared.place.Slot.{Slot};
+
+    ghost Value = { List (Slot K) };
+
+    ghost view = { λ i. i.slots.keys };
+}
+
+impl<K: Key> Index<K> {
+    /// No key is at any place. It takes no memory.
+    pub fn new(alloc: Global) -> Index<K>
+        ensures { (place : Place) (key : K) → stands K.cmp result place key ≡ false }
+    {
+        Index {
+            slots: BTreeSet::new(alloc),
+        }
+    }
+
+    /// Puts a key at a place. Memory is taken for one that is not there alone, and where it is refused
+    /// nothing changes.
+    pub fn put(&mut self, place: Place, key: K) -> Result<(), AllocError>
+        ensures ok { OnOk result ((other : Place) (at : K) → stands K.cmp self.new other at
+            ≡ (if is_same_slot K.cmp place key other at then true else stands K.cmp self.old other at)) }
+        ensures err { OnErr result (self.new ≡ self.old) }
+        ensures grows { OnErr result (stands K.cmp self.old place key ≡ false) }
+    {
+        self.slots.insert(slot(place, key))?;
+        Ok(())
+    }
+
+    /// Takes a key from a place, if it is there. It takes no memory.
+    pub fn remove(&mut self, place: Place, key: K)
+        ensures { (other : Place) (at : K) → stands K.cmp self.new other at
+            ≡ (if is_same_slot K.cmp place key other at then false else stands K.cmp self.old other at) }
+    {
+        self.slots.remove(&slot(place, key));
+    }
+
+    /// The first key at a place, if there is one. It looks at no other place.
+    pub fn first(&self, place: Place) -> Option<K>
+        ensures some { IfSome result (λ key. stands K.cmp self.now place key ≡ true) }
+        ensures none { IfNone result ((key : K) → stands K.cmp self.now place key ≡ false) }
+    {
+        let begin = Slot { place, key: None };
+        let range = (Bound::Excluded(begin), Bound::Unbounded);
+        let first = self.slots.range(range).next()?;
+        if first.place == place {
+            first.key
+        } else {
+            None
+        }
+    }
+
+    /// Takes the first key from a place, and tells it. Whoever asks until there is none has asked once for
+    /// each key that was there, and once more. It takes no memory.
+    pub fn take(&mut self, place: Place) -> Option<K>
+        ensures some { IfSome result (λ key. stands K.cmp self.old place key ≡ true) }
+        ensures none { IfNone result ((key : K) → stands K.cmp self.old place key ≡ false) }
+        ensures taken { IfSome result (λ key. (other : Place) (at : K) → stands K.cmp self.new other at
+            ≡ (if is_same_slot K.cmp place key other at then false else stands K.cmp self.old other at)) }
+        ensures unchanged { IfNone result (self.new ≡ self.old) }
+        ensures fewer { IfSome result (λ _. length self.new < length self.old) }
+    {
+        let key = self.first(place)?;
+        self.slots.remove(&slot(place, key));
+        Some(key)
+    }
+}
+
+/// A key at a place.
+fn slot<K: Key>(place: Place, key: K) -> Slot<K>
+    ensures { result ≡ record { place = place; key = Some key } }
+{
+    Slot {
+        place,
+        key: Some(key),
+    }
+}
