@@ -1,11 +1,20 @@
 //! Keys by the places at which they are: what an audit finds without a look at the rest.
 //!
-//! - [`Index`]: keys at their places;
-//! - [`Place`]: where keys are, as two numbers; [`Slot`]: a key at its place.
+//! - [`Index`]: keys at their places; [`Slot`]: a key at its place;
+//! - [`OwnedTable`]: a table of what addresses own, and which an address loses without a look at the rest;
+//! - [`Owned`]: which addresses own a value.
+//!
+//! An index has at least the keys that are at a place. It may have more, which whoever takes them looks for in vain:
+//! so a key is put in before its value, and taken out after it.
 #![tactic(auto)]
 
 mod index;
-mod place;
+mod owned;
+mod owned_table;
+mod owners;
+mod slot;
 
 pub use index::Index;
-pub use place::{Place, Slot};
+pub use owned::Owned;
+pub use owned_table::OwnedTable;
+pub use slot::Slot;
