@@ -11,11 +11,16 @@ use Rattle.someip_tables.specs.Retained.{kept_if}
 use Rattle.audit_sd.specs.declared.offers.entry.OfferEntry.{OfferEntry}
 use Rattle.audit_sd.specs.declared.offers.entry.Standing.{Standing}
 use Rattle.audit_sd.specs.declared.offers.finding.Finding.{Finding}
+use Rattle.audit_sd.specs.declared.offers.key.OfferKey.{OfferKey}
 use Rattle.audit_sd.specs.declared.offers.finding.Finding.TheVariants.{Moved}
 
 -- an offer is of a sender
 abbrev pub is_of : Ipv4Addr → Standing → Bool
 is_of sender offer = eq_by_cmp address_cmp (v4_ip offer.origin.from) sender
+
+-- its sender owns it
+abbrev pub owners_of : OfferKey → Standing → Ipv4Addr × Ipv4Addr
+owners_of key offer = (v4_ip offer.origin.from, v4_ip offer.origin.from)
 
 -- the sender of an entry
 abbrev pub sender_of : OfferEntry → Ipv4Addr

@@ -38,6 +38,15 @@ no_servers limit = record { limit = limit; known = finite.empty; told_full = fal
 abbrev pub waits_for_none : Server → Option ℕ
 waits_for_none server = None
 
+-- the sender of its newest Offer owns it
+abbrev pub owners_of : ServerKey → Server → Ipv4Addr × Ipv4Addr
+owners_of key server = (server.sender, server.sender)
+
+-- something is known of a server, and its newest Offer is of a sender
+abbrev pub IsOfSender : Ipv4Addr → Option Server → Type 0
+IsOfSender sender None = ⊥
+IsOfSender sender (Some server) = server.sender ≡ sender
+
 -- ---- an Offer
 
 -- that the book is full is told at the first Offer that there is no room for

@@ -25,6 +25,10 @@ asked_at now answer_ms entry = record { origin = entry.origin; until = now + ans
 abbrev pub is_of : Ipv4Addr → SubscriptionKey → Bool
 is_of address key = eq_by_cmp address_cmp key.client address || eq_by_cmp address_cmp key.server address
 
+-- client and server own what is kept of it
+abbrev pub owners_of : {V : Type 0} → SubscriptionKey → V → Ipv4Addr × Ipv4Addr
+owners_of key value = (key.client, key.server)
+
 -- what is told of an answer: a Nack, whatever it answers
 abbrev pub told_of_answer : SubscribeEntry → Option Finding
 told_of_answer entry = if entry.ttl == 0 then Some Nack else None

@@ -1,8 +1,9 @@
 //! An Offer or a StopOffer of a recording, and what stands by it.
 use crate::offers::key::OfferKey;
+use audit_index::Owned;
 use someip_tables::hashed::Origin;
 use someip_tables::{Deadline, Waits};
-use std::net::SocketAddrV4;
+use std::net::{Ipv4Addr, SocketAddrV4};
 
 /// An Offer, or a StopOffer, whose TTL is 0 (SOME/IP Service Discovery Protocol, "Offer Service entry",
 /// "Stop Offer Service entry").
@@ -41,5 +42,17 @@ impl Waits for Standing {
             Deadline::At(at) => Some(at),
             Deadline::Never => None,
         }
+    }
+}
+
+/// An offer is its sender's.
+impl Owned<OfferKey> for Standing {
+    ghost use Rattle.audit_sd.specs.offers.OfferRules.{owners_of};
+
+    ghost owners = { owners_of };
+
+    fn owners(&self, _key: &OfferKey) -> (Ipv4Addr, Ipv4Addr) {
+        let sender = *self.origin.from.ip();
+        (sender, sender)
     }
 }

@@ -1,20 +1,20 @@
 //! The offers of a recording that stand.
-ghost use Rattle.std.specs.Prelude.{◌≡◌, ◌≢◌, ◌≤◌, IfOk, OnErr, not, true, false};
+ghost use Rattle.std.specs.Prelude.{◌≡◌, ◌≢◌, ◌≤◌, IfOk, OnErr, Some, not, true, false};
 ghost use Rattle.std.specs.FinMap as finite;
-ghost use Rattle.someip_tables.specs.Deadlines.{deadline_after, millis_of};
 ghost use Rattle.someip_tables.specs.Retained.{retain};
 ghost use Rattle.someip_tables.specs.Tables.{map_of};
 ghost use Rattle.someip_tables.specs.Waits.{HoldsFrom, due_by};
-ghost use Rattle.someip_tables.specs.hashed.Dues.{WantsMemory};
+ghost use Rattle.audit_index.specs.Owners.{WantsRoom};
 ghost use Rattle.audit_sd.specs.offers.OfferKeys.{offer_cmp};
-ghost use Rattle.audit_sd.specs.offers.OfferRules.{is_of, moved_by, offered_at, passes_at};
+ghost use Rattle.audit_sd.specs.offers.OfferRules.{is_of, moved_by, offered_at, owners_of, passes_at};
 ghost use Rattle.audit_sd.specs.offers.OfferTables.{FallsDue, after_due, after_entry, ended_by, is_offered_by};
 ghost use Rattle.audit_sd.specs.offers.OfferTables.{is_stored, stopped, told_by, without_sender};
 
 use crate::offers::entry::{OfferEntry, Standing};
 use crate::offers::finding::{Expired, Finding};
 use crate::offers::key::OfferKey;
-use someip_tables::hashed::{DueTable, Room};
+use audit_index::OwnedTable;
+use someip_tables::hashed::Room;
 use someip_tables::{Deadline, Moment, is_same_key};
 use std::alloc::{AllocError, Global};
 use std::marker::Model;
@@ -24,7 +24,7 @@ use std::net::{Ipv4Addr, SocketAddrV4};
 #[derive(Drop)]
 pub struct OfferBook {
     room: Room,
-    standing: DueTable<OfferKey, Standing>,
+    standing: OwnedTable<OfferKey, Standing>,
 }
 
 impl Model for OfferBook {
@@ -54,7 +54,7 @@ impl OfferBook {
     {
         OfferBook {
             room: Room::new(limit),
-            standing: DueTable::new(alloc),
+            standing: OwnedTable::new(alloc),
         }
     }
 
@@ -70,9 +70,9 @@ impl OfferBook {
         ensures after { IfOk result (λ told. self.new ≡ after_entry now entry self.old) }
         ensures err { OnErr result (self.new ≡ self.old) }
         ensures stores { OnErr result (is_stored entry self.old ≡ true) }
-        ensures grows { OnErr result
-            (WantsMemory passes_at (finite.get self.old.standing entry.key)
-            (millis_of (deadline_after now entry.ttl))) }
+        ensures grows { OnErr result ((endpoint : SocketAddrV4) → entry.endpoint ≡ Some endpoint
+            → WantsRoom owners_of passes_at entry.key (finite.get self.old.standing entry.key)
+            (offered_at now entry endpoint)) }
     {
         if entry.ttl == 0 {
             stop(&mut self.standing, &entry);
@@ -101,7 +101,7 @@ impl OfferBook {
         }
     }
 
-    /// Ends the offers of a sender that began again. It looks at every offer, and takes no memory.
+    /// Ends the offers of a sender that began again. It looks at these alone, and takes no memory.
     pub fn forget(&mut self, sender: Ipv4Addr)
         ensures { self.new ≡ without_sender sender self.old }
     {
@@ -144,7 +144,7 @@ impl OfferBook {
 
 /// An Offer stands in place of what stood under its key.
 fn offer(
-    offers: &mut DueTable<OfferKey, Standing>,
+    offers: &mut OwnedTable<OfferKey, Standing>,
     now: Moment,
     entry: &OfferEntry,
     endpoint: SocketAddrV4,
@@ -154,9 +154,8 @@ fn offer(
     ensures after { IfOk result (λ told. map_of offer_cmp offers.new
         ≡ finite.insert (map_of offer_cmp offers.old) entry.now.key (offered_at now entry.now endpoint)) }
     ensures err { OnErr result (offers.new ≡ offers.old) }
-    ensures grows { OnErr result (WantsMemory passes_at
-        (finite.get (map_of offer_cmp offers.old) entry.now.key)
-        (millis_of (deadline_after now entry.now.ttl))) }
+    ensures grows { OnErr result (WantsRoom owners_of passes_at entry.now.key
+        (finite.get (map_of offer_cmp offers.old) entry.now.key) (offered_at now entry.now endpoint)) }
 {
     let told = moved_by(entry, endpoint, offers.get(&entry.key));
     let standing = Standing {
@@ -185,7 +184,7 @@ fn moved_by(
 }
 
 /// A StopOffer ends the offer under its key, if this is of its sender.
-fn stop(offers: &mut DueTable<OfferKey, Standing>, entry: &OfferEntry)
+fn stop(offers: &mut OwnedTable<OfferKey, Standing>, entry: &OfferEntry)
     ensures { map_of offer_cmp offers.new ≡ stopped entry.now (map_of offer_cmp offers.old) }
 {
     if is_offered_by(offers.get(&entry.key), *entry.origin.from.ip()) {
@@ -211,15 +210,15 @@ fn is_of(offer: &Standing, sender: Ipv4Addr) -> bool
 }
 
 /// Ends the offers of a sender.
-fn forget(offers: &mut DueTable<OfferKey, Standing>, sender: Ipv4Addr)
+fn forget(offers: &mut OwnedTable<OfferKey, Standing>, sender: Ipv4Addr)
     ensures { map_of offer_cmp offers.new
         ≡ retain (map_of offer_cmp offers.old) (λ _ offer. not (is_of sender offer)) }
 {
-    offers.retain(|_, offer| !is_of(offer, sender));
+    offers.forget(sender);
 }
 
 /// The offer that expires first, if its deadline has come.
-fn first_expired(offers: &DueTable<OfferKey, Standing>, now: Moment) -> Option<Expired>
+fn first_expired(offers: &OwnedTable<OfferKey, Standing>, now: Moment) -> Option<Expired>
     ensures { FallsDue now (map_of offer_cmp offers.now) result }
 {
     let Some(due) = offers.first_due() else {

@@ -1,5 +1,7 @@
 //! What is known of a server.
+use crate::servers::key::ServerKey;
 use crate::servers::offer::Served;
+use audit_index::Owned;
 use someip_tables::{Deadline, Waits};
 use std::net::Ipv4Addr;
 
@@ -33,5 +35,16 @@ impl Waits for Server {
 
     fn waits_for(&self) -> Option<u64> {
         None
+    }
+}
+
+/// A server is the sender's of its newest Offer.
+impl Owned<ServerKey> for Server {
+    ghost use Rattle.audit_sd.specs.servers.ServerTables.{owners_of};
+
+    ghost owners = { owners_of };
+
+    fn owners(&self, _key: &ServerKey) -> (Ipv4Addr, Ipv4Addr) {
+        (self.sender, self.sender)
     }
 }

@@ -7,6 +7,8 @@ ghost use Rattle.audit_sd.specs.servers.ServerKeys.{server_cmp};
 ghost use Rattle.audit_sd.specs.servers.ServerRules.{ended, ended_state, is_not_offered, is_of, is_offered};
 ghost use Rattle.audit_sd.specs.servers.ServerRules.{is_same_served, is_told, offered_at, told_of_version, was_told};
 ghost use Rattle.audit_sd.specs.servers.ServerTables.{after_message, after_offer, after_stop, changed_if, judged_of};
+ghost use Rattle.audit_index.specs.Owners.{WantsRoom};
+ghost use Rattle.audit_sd.specs.servers.ServerTables.{IsOfSender, owners_of, waits_for_none};
 ghost use Rattle.audit_sd.specs.servers.ServerTables.{no_servers, tells_full, told_by, without_sender};
 
 use crate::servers::finding::Finding;
@@ -14,8 +16,9 @@ use crate::servers::key::ServerKey;
 use crate::servers::message::ServerMessage;
 use crate::servers::offer::{Served, ServerOffer};
 use crate::servers::server::{Server, ServerState};
-use someip_tables::hashed::{DueTable, Room};
-use someip_tables::{Deadline, Moment, is_same_key};
+use audit_index::OwnedTable;
+use someip_tables::hashed::Room;
+use someip_tables::{Deadline, Moment};
 use std::alloc::{AllocError, Global};
 use std::marker::Model;
 use std::net::Ipv4Addr;
@@ -24,7 +27,7 @@ use std::net::Ipv4Addr;
 #[derive(Drop)]
 pub struct ServerBook {
     room: Room,
-    known: DueTable<ServerKey, Server>,
+    known: OwnedTable<ServerKey, Server>,
 }
 
 impl Model for ServerBook {
@@ -54,18 +57,19 @@ impl ServerBook {
     {
         ServerBook {
             room: Room::new(limit),
-            known: DueTable::new(alloc),
+            known: OwnedTable::new(alloc),
         }
     }
 
     /// Takes note of an Offer: its server is offered until its TTL has passed, in place of what was known of
     /// it. Says whether it shows that the book is full, which is told once in the life of a book. Memory is
-    /// taken for a new server alone, and what is refused for want of it leaves the book as it was.
+    /// taken for a new server, or a new sender, alone, and what is refused for want of it leaves the book as it was.
     pub fn offered(&mut self, now: Moment, offer: ServerOffer) -> Result<bool, AllocError>
         ensures told { IfOk result (λ full. full ≡ tells_full offer self.old) }
         ensures after { IfOk result (λ _. self.new ≡ after_offer now offer self.old) }
         ensures err { OnErr result (self.new ≡ self.old) }
-        ensures grows { OnErr result (finite.get self.old.known offer.server ≡ None) }
+        ensures grows { OnErr result (WantsRoom owners_of waits_for_none offer.server
+            (finite.get self.old.known offer.server) (offered_at now offer)) }
     {
         let is_held = self.known.get(&offer.server).is_some();
         if !self.room.may_hold(is_held, self.known.len()) {
@@ -85,8 +89,8 @@ impl ServerBook {
         stop(&mut self.known, key, served);
     }
 
-    /// Forgets the servers whose newest Offer is of a sender that began again. It looks at every server,
-    /// and takes no memory.
+    /// Forgets the servers whose newest Offer is of a sender that began again. It looks at these alone, and
+    /// takes no memory.
     pub fn forget(&mut self, sender: Ipv4Addr)
         ensures { self.new ≡ without_sender sender self.old }
     {
@@ -123,7 +127,7 @@ fn offered_at(now: Moment, offer: &ServerOffer) -> Server
 }
 
 /// A StopOffer ended an offer at a server.
-fn stop(known: &mut DueTable<ServerKey, Server>, key: &ServerKey, served: Served)
+fn stop(known: &mut OwnedTable<ServerKey, Server>, key: &ServerKey, served: Served)
     ensures { map_of server_cmp known.new ≡ changed_if (is_same_served served) ended key.now
         (finite.get (map_of server_cmp known.old) key.now) (map_of server_cmp known.old) }
 {
@@ -165,7 +169,7 @@ fn ended_state(state: ServerState) -> ServerState
 
 /// A message comes, to a server or from it.
 fn hear(
-    known: &mut DueTable<ServerKey, Server>,
+    known: &mut OwnedTable<ServerKey, Server>,
     now: Moment,
     message: &ServerMessage,
 ) -> Option<Finding>
@@ -183,9 +187,9 @@ fn hear(
     told_of_version(now, message, &server)
 }
 
-/// Puts a server in place of what is known of it. It takes no memory.
-fn keep(known: &mut DueTable<ServerKey, Server>, key: &ServerKey, server: Server)
-    requires { finite.get (map_of server_cmp known.now) key.now ≢ None }
+/// Puts a server in place of what is known of it, with the same sender. It takes no memory.
+fn keep(known: &mut OwnedTable<ServerKey, Server>, key: &ServerKey, server: Server)
+    requires { IsOfSender server.sender (finite.get (map_of server_cmp known.now) key.now) }
     ensures { map_of server_cmp known.new
         ≡ finite.insert (map_of server_cmp known.old) key.now server }
 {
@@ -240,16 +244,9 @@ fn told_of_version(now: Moment, message: &ServerMessage, server: &Server) -> Opt
 }
 
 /// Forgets the servers of a sender.
-fn forget(known: &mut DueTable<ServerKey, Server>, sender: Ipv4Addr)
+fn forget(known: &mut OwnedTable<ServerKey, Server>, sender: Ipv4Addr)
     ensures { map_of server_cmp known.new
         ≡ retain (map_of server_cmp known.old) (λ _ server. not (is_of sender server)) }
 {
-    known.retain(|_, server| !is_of(server, sender));
-}
-
-/// Whether the newest Offer of a server is of a sender.
-fn is_of(server: &Server, sender: Ipv4Addr) -> bool
-    ensures { result ≡ is_of sender server.now }
-{
-    is_same_key(&server.sender, &sender)
+    known.forget(sender);
 }

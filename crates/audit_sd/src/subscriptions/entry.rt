@@ -1,7 +1,9 @@
 //! A Subscribe of a recording, and its answer.
 use crate::subscriptions::key::SubscriptionKey;
+use audit_index::Owned;
 use someip_tables::Waits;
 use someip_tables::hashed::Origin;
+use std::net::Ipv4Addr;
 
 /// The two kinds of entries of eventgroups.
 #[derive(Clone, Copy, Debug, PartialEq, Eq)]
@@ -44,5 +46,16 @@ impl Waits for Asked {
 
     fn waits_for(&self) -> Option<u64> {
         Some(self.until)
+    }
+}
+
+/// It is the client's and the server's.
+impl Owned<SubscriptionKey> for Asked {
+    ghost use Rattle.audit_sd.specs.subscriptions.SubscribeRules.{owners_of};
+
+    ghost owners = { owners_of };
+
+    fn owners(&self, key: &SubscriptionKey) -> (Ipv4Addr, Ipv4Addr) {
+        (key.client, key.server)
     }
 }

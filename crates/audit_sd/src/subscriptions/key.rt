@@ -1,9 +1,7 @@
 //! What tells subscriptions apart.
-ghost use Rattle.std.specs.Prelude.{◌≡◌};
-ghost use Rattle.audit_sd.specs.subscriptions.SubscribeRules.{is_of};
 ghost use Rattle.audit_sd.specs.subscriptions.SubscriptionOrder.{exact_subscriptions};
 
-use someip_tables::{Key, is_same_key};
+use someip_tables::Key;
 use std::net::Ipv4Addr;
 
 /// What tells subscriptions apart: by rising address of the client, then of the server, and then by the
@@ -28,11 +26,4 @@ pub struct SubscriptionKey {
 
 impl Key for SubscriptionKey {
     ghost exact = { exact_subscriptions };
-}
-
-/// Whether a subscription is of an address: that of its client or of its server.
-pub(crate) fn is_of(key: &SubscriptionKey, address: Ipv4Addr) -> bool
-    ensures { result ≡ is_of address key.now }
-{
-    is_same_key(&key.client, &address) || is_same_key(&key.server, &address)
 }

@@ -7,9 +7,9 @@ ghost use Rattle.audit_sd.specs.subscriptions.SubscriptionKeys.{subscription_cmp
 ghost use Rattle.audit_sd.specs.subscriptions.OwedAnswers.{once_answered, once_asked, one_less, one_more};
 ghost use Rattle.audit_sd.specs.subscriptions.SubscribeRules.{is_of};
 
-use crate::subscriptions::key::{SubscriptionKey, is_of};
+use crate::subscriptions::key::SubscriptionKey;
+use audit_index::{Owned, OwnedTable};
 use someip_tables::Waits;
-use someip_tables::hashed::DueTable;
 use std::alloc::AllocError;
 use std::net::Ipv4Addr;
 
@@ -31,9 +31,20 @@ impl Waits for Owed {
     }
 }
 
+/// It is owed by the server to the client.
+impl Owned<SubscriptionKey> for Owed {
+    ghost use Rattle.audit_sd.specs.subscriptions.SubscribeRules.{owners_of};
+
+    ghost owners = { owners_of };
+
+    fn owners(&self, key: &SubscriptionKey) -> (Ipv4Addr, Ipv4Addr) {
+        (key.client, key.server)
+    }
+}
+
 /// A Subscribe comes: one more answer is owed.
 pub(crate) fn ask(
-    owed: &mut DueTable<SubscriptionKey, Owed>,
+    owed: &mut OwnedTable<SubscriptionKey, Owed>,
     key: SubscriptionKey,
 ) -> Result<(), AllocError>
     ensures ok { OnOk result
@@ -46,7 +57,7 @@ pub(crate) fn ask(
 }
 
 /// An answer comes: one less is owed.
-pub(crate) fn answer(owed: &mut DueTable<SubscriptionKey, Owed>, key: &SubscriptionKey)
+pub(crate) fn answer(owed: &mut OwnedTable<SubscriptionKey, Owed>, key: &SubscriptionKey)
     ensures { map_of subscription_cmp owed.new
         ≡ once_answered key.now (map_of subscription_cmp owed.old) }
 {
@@ -57,7 +68,7 @@ pub(crate) fn answer(owed: &mut DueTable<SubscriptionKey, Owed>, key: &Subscript
 }
 
 /// So many answers are still owed to a subscription that answers were owed to. It takes no memory.
-fn keep(owed: &mut DueTable<SubscriptionKey, Owed>, key: SubscriptionKey, left: Owed)
+fn keep(owed: &mut OwnedTable<SubscriptionKey, Owed>, key: SubscriptionKey, left: Owed)
     requires { finite.get (map_of subscription_cmp owed.now) key ≢ None }
     ensures { map_of subscription_cmp owed.new
         ≡ finite.insert (map_of subscription_cmp owed.old) key left }
@@ -66,11 +77,11 @@ fn keep(owed: &mut DueTable<SubscriptionKey, Owed>, key: SubscriptionKey, left: 
 }
 
 /// An address began again: no answer from it or to it is owed.
-pub(crate) fn forgive(owed: &mut DueTable<SubscriptionKey, Owed>, address: Ipv4Addr)
+pub(crate) fn forgive(owed: &mut OwnedTable<SubscriptionKey, Owed>, address: Ipv4Addr)
     ensures { map_of subscription_cmp owed.new
         ≡ retain (map_of subscription_cmp owed.old) (λ key _. not (is_of address key)) }
 {
-    owed.retain(|key, _| !is_of(key, address));
+    owed.forget(address);
 }
 
 /// What is owed once one more Subscribe came.

@@ -15,10 +15,11 @@ ghost use Rattle.audit_sd.specs.subscriptions.SubscribeTables.{told_by, unasked_
 
 use crate::subscriptions::entry::{Asked, EntryKind, SubscribeEntry};
 use crate::subscriptions::finding::{Finding, Unanswered};
-use crate::subscriptions::key::{SubscriptionKey, is_of};
+use crate::subscriptions::key::SubscriptionKey;
 use crate::subscriptions::owed::{Owed, answer, ask, forgive};
+use audit_index::OwnedTable;
 use someip_tables::Moment;
-use someip_tables::hashed::{DueTable, Room};
+use someip_tables::hashed::Room;
 use std::alloc::{AllocError, Global};
 use std::marker::Model;
 use std::net::Ipv4Addr;
@@ -34,8 +35,8 @@ pub struct SubscribeBook {
     room: Room,
     answer_ms: u32,
     settled: Moment,
-    waiting: DueTable<SubscriptionKey, Asked>,
-    owed: DueTable<SubscriptionKey, Owed>,
+    waiting: OwnedTable<SubscriptionKey, Asked>,
+    owed: OwnedTable<SubscriptionKey, Owed>,
 }
 
 impl Model for SubscribeBook {
@@ -73,8 +74,8 @@ impl SubscribeBook {
             room: Room::new(limit),
             answer_ms,
             settled,
-            waiting: DueTable::new(alloc),
-            owed: DueTable::new(alloc),
+            waiting: OwnedTable::new(alloc),
+            owed: OwnedTable::new(alloc),
         }
     }
 
@@ -125,7 +126,7 @@ impl SubscribeBook {
     }
 
     /// Ends the wait of the Subscribes of an address that began again, and of those that were sent to it:
-    /// no answer is owed to them. It looks at every subscription that is held, and takes no memory.
+    /// no answer is owed to them. It looks at these alone, and takes no memory.
     pub fn forget(&mut self, address: Ipv4Addr)
         ensures { self.new ≡ without address self.old }
     {
@@ -210,8 +211,8 @@ fn unasked_as(entry: &SubscribeEntry) -> Option<Finding>
 
 /// Whether there is room for a Subscribe: it may wait, and its answer may be owed.
 fn has_room(
-    waiting: &DueTable<SubscriptionKey, Asked>,
-    owed: &DueTable<SubscriptionKey, Owed>,
+    waiting: &OwnedTable<SubscriptionKey, Asked>,
+    owed: &OwnedTable<SubscriptionKey, Owed>,
     room: Room,
     key: &SubscriptionKey,
 ) -> bool
@@ -225,8 +226,8 @@ fn has_room(
 /// A Subscribe comes that there is room for: it waits, unless one of its subscription does, and is owed an
 /// answer.
 fn take(
-    waiting: &mut DueTable<SubscriptionKey, Asked>,
-    owed: &mut DueTable<SubscriptionKey, Owed>,
+    waiting: &mut OwnedTable<SubscriptionKey, Asked>,
+    owed: &mut OwnedTable<SubscriptionKey, Owed>,
     now: Moment,
     answer_ms: u32,
     entry: &SubscribeEntry,
@@ -255,7 +256,7 @@ fn take(
 
 /// A Subscribe waits, unless one of its subscription does.
 fn wait(
-    waiting: &mut DueTable<SubscriptionKey, Asked>,
+    waiting: &mut OwnedTable<SubscriptionKey, Asked>,
     now: Moment,
     answer_ms: u32,
     entry: &SubscribeEntry,
@@ -279,15 +280,15 @@ fn wait(
 }
 
 /// Ends the wait of what is of an address.
-fn forget(waiting: &mut DueTable<SubscriptionKey, Asked>, address: Ipv4Addr)
+fn forget(waiting: &mut OwnedTable<SubscriptionKey, Asked>, address: Ipv4Addr)
     ensures { map_of subscription_cmp waiting.new
         ≡ retain (map_of subscription_cmp waiting.old) (λ key _. not (is_of address key)) }
 {
-    waiting.retain(|key, _| !is_of(key, address));
+    waiting.forget(address);
 }
 
 /// The Subscribe that waited too long first, if one has.
-fn first_unanswered(waiting: &DueTable<SubscriptionKey, Asked>, now: Moment) -> Option<Unanswered>
+fn first_unanswered(waiting: &OwnedTable<SubscriptionKey, Asked>, now: Moment) -> Option<Unanswered>
     ensures { FallsDue now (map_of subscription_cmp waiting.now) result }
 {
     let Some(due) = waiting.first_due() else {
