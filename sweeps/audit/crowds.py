@@ -1,10 +1,10 @@
-"""Recordings in which each table of an audit comes to its limit of 65,536 keys, one for each, and two in which answered
-calls fill theirs. What has to be told of them is known without any book: `full NAME` of the first message that finds no
+"""Recordings in which each table of an audit comes to its limit of 65,536 keys, one for each, two in which answered
+calls fill theirs, and one in which an event goes to more receivers than are known. What has to be told of them is known without any book: `full NAME` of the first message that finds no
 room, and nothing else."""
 import wire
 from model import unjudged_of
 
-LIMIT, SECOND = 65536, 10**9
+LIMIT, RECEIVERS, SECOND = 65536, 256, 10**9
 SERVER, CLIENT = (wire.address("192.168.0.1"), 30509), (wire.address("192.168.0.2"), 40001)
 A, B, GROUP = ((wire.address(host), wire.DISCOVERY_PORT) for host in ("192.168.0.1", "192.168.0.2", "239.0.0.1"))
 
@@ -67,6 +67,12 @@ def events():
     headers = [wire.Header(1 + number // LIMIT, number % LIMIT, 0, 1, 1, wire.NOTIFICATION, 0)
                for number in range(LIMIT + 2)]
     return offered() + of_messages(SERVER, CLIENT, headers)
+
+
+def event_receivers():
+    """One event to more receivers than are known of it."""
+    one = wire.message(wire.Header(1, 1, 0, 1, 1, wire.NOTIFICATION, 0), b"")
+    return offered() + [wire.Record(0, SERVER, (CLIENT[0] + number, CLIENT[1]), one) for number in range(RECEIVERS + 2)]
 
 
 def gaps():
@@ -132,7 +138,7 @@ CROWDS = {"calls": ("calls", calls, 1 + FULL), "answered calls": ("calls", answe
           "sessions": ("sessions", sessions, LIMIT + 1), "offers": ("offers", offers, FULL),
           "subscriptions": ("subscriptions", subscriptions, 2 * LIMIT // 4000 + 1),
           "receivers": ("receivers", receivers, 2 * FULL - 1),
-          "events": ("events", events, 1 + FULL), "gaps": ("gaps", gaps, 2), "ways": ("ways", ways, LIMIT + 2),
+          "events": ("events", events, 1 + FULL), "event receivers": ("events", event_receivers, 1 + RECEIVERS + 1), "gaps": ("gaps", gaps, 2), "ways": ("ways", ways, LIMIT + 2),
           "endpoints": ("endpoints", endpoints, LIMIT // 200 + 1), "servers": ("servers", servers, 2 * LIMIT // 4000 + 1)}
 
 

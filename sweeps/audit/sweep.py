@@ -21,7 +21,7 @@ Recordings: what they are; what is expected
   1000 `drawn`: of drawn datagrams, which need make no sense: messages of Service Discovery, calls, events, segments,
     with bytes that are cut or changed, over few addresses and IDs, so that keys meet; with times that go back, stand
     still or are not there, with packets that are no datagrams, and with drawn options; what the model tells
-  12 `crowds`: a table of an audit comes to its limit of 65,536 keys, one for each table; and calls that were answered
+  13 `crowds`: a table of an audit comes to its limit of 65,536 keys, one for each table; and calls that were answered
     fill theirs, in one that goes on while they are known, and in one that goes on when they no longer are; `full
     NAME` at the first thing that finds no room, and nothing else
   the example: `examples/audit.pcap`, as `sweeps/audit/story.py` writes it; `examples/audit.txt`

@@ -1,5 +1,5 @@
-"""Recordings that fill one book of an audit each, with as many keys as are asked for, and then hit it as often where
-most of it is concerned: an event to each receiver of a source, an entry that disturbs flows, a reboot, and so on.
+"""Recordings that fill one book of an audit each, with as many keys as are asked for, and then hit it as often where a
+hit concerns many of them: an event to each receiver of a source, an entry that disturbs flows, a reboot, and so on.
 
 Between two hits something comes that the hit undoes, so that no hit finds all done by the one before."""
 import os
@@ -47,11 +47,9 @@ def joined(source, destination, texts, time=0):
     return [wire.Record(time, source, destination, b"".join(some)) for some in batches(texts, 2000)]
 
 
-def of_flows(count, session, service=None):
-    """An event of each of so many Event IDs, or of each service."""
-    if service is None:
-        return joined(SERVER, CLIENT, [event(session, 1 + number // 256, number % 256) for number in range(count)])
-    return joined(SERVER, CLIENT, [event(session, number) for number in range(count)])
+def of_flows(count, session):
+    """So many events, each of its own Event ID and service."""
+    return joined(SERVER, CLIENT, [event(session, 1 + number // 256, number % 256) for number in range(count)])
 
 
 # ---- Events
@@ -62,16 +60,9 @@ def event_receivers(count):
                         for session in (1, 2) for number in range(count)]
 
 
-def event_receivers_in_turn(count):
-    """One event to many receivers of one address, by port, in turn."""
-    ends = [(FIRST + number // 60000, 1 + number % 60000) for number in range(count)]
-    return offered() + [wire.Record(0, SERVER, end, event(session)) for session in (1, 2) for end in ends]
-
-
 def event_changes(count):
     """Events of a server, and then StopSubscribes of their client, an event between two."""
     found = offered() + of_flows(count, 1)
-    stop = wire.discovery_message
     for number in range(count):
         found.append(discovery(B, A, 1 + number % 60000, [entry(6, 0, CLIENT, 0)], 0x40))
         found.append(wire.Record(0, SERVER, CLIENT, event(2, 1 + number // 256, number % 256)))
@@ -236,8 +227,13 @@ def offers(count):
     return [discovery(A, GROUP, session, some) for session, some in enumerate(batches(found, 2000), 1)]
 
 
-BOOKS = {make.__name__.replace("_", " "): make for make in (
-    event_receivers, event_receivers_in_turn, event_changes, event_changes_at_once, event_withdrawals, reboots, reboots_of_offers,
-    reboots_of_clients, reboots_of_servers, reboots_of_senders, reboots_of_receivers, events_to_subscriptions,
-    events_to_nobody, subscribes_after_told, withdrawals_of_subscriptions, stops_of_subscriptions, expiring, calls, gaps,
-    ways, offers)}
+def named(*makers):
+    return {make.__name__.replace("_", " "): make for make in makers}
+
+
+# What holds, and what still goes over a whole book at each hit.
+HELD = named(event_receivers, calls, gaps, ways, offers)
+BOOKS = HELD | named(
+    event_changes, event_changes_at_once, event_withdrawals, reboots, reboots_of_offers, reboots_of_clients,
+    reboots_of_servers, reboots_of_senders, reboots_of_receivers, events_to_subscriptions, events_to_nobody,
+    subscribes_after_told, withdrawals_of_subscriptions, stops_of_subscriptions, expiring)

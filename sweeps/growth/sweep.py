@@ -1,0 +1,82 @@
+"""growth: what an audit costs where a book is full, beside half of it.
+
+Each recording of `books.py` fills one book of `audit` with its limit of keys, and hits it as often where a hit concerns
+many of them. The same is made with half as many keys and hits. The one may cost 2.3 times the instructions of the
+other, as `valgrind --tool=callgrind` counts them. Where that is not there, user time is compared, with 3.2 times.
+Run by `sweeps/run growth`: sweep.py PROGRAM [BOOK..]; without words those that hold are tried, with `all` the others too.
+"""
+import concurrent.futures
+import os
+import re
+import resource
+import shutil
+import subprocess
+import sys
+import tempfile
+
+import books
+import wire
+
+LIMIT = int(os.environ.get("GROWTH_LIMIT", "65536"))
+MOST, MOST_BY_TIME = 2.3, 3.2
+VALGRIND = shutil.which("valgrind")
+
+
+def instructions(program, path):
+    """The instructions of an audit."""
+    run = subprocess.run([VALGRIND, "--tool=callgrind", "--callgrind-out-file=/dev/null", program, "audit", path],
+                         stdout=subprocess.DEVNULL, stderr=subprocess.PIPE, text=True, check=False)
+    counted = re.search(r"Collected : (\d+)", run.stderr)
+    if run.returncode not in (0, 1) or not counted:
+        raise RuntimeError(f"status {run.returncode}: {run.stderr[-300:]}")
+    return int(counted[1])
+
+
+def user_time(program, path):
+    """The least user time of three audits, in seconds."""
+    times = []
+    for _ in range(3):
+        before = resource.getrusage(resource.RUSAGE_CHILDREN).ru_utime
+        run = subprocess.run([program, "audit", path], stdout=subprocess.DEVNULL, stderr=subprocess.PIPE, check=False)
+        if run.returncode not in (0, 1):
+            raise RuntimeError(f"status {run.returncode}: {run.stderr[-300:]}")
+        times.append(resource.getrusage(resource.RUSAGE_CHILDREN).ru_utime - before)
+    return min(times)
+
+
+def cost(program, room, name, keys):
+    path = os.path.join(room, f"{name.replace(' ', '-')}.{keys}")
+    with open(path, "wb") as out:
+        out.write(wire.pcap(books.BOOKS[name](keys), nanoseconds=True))
+    found = instructions(program, path) if VALGRIND else user_time(program, path)
+    os.remove(path)
+    return found
+
+
+def tried(program, names):
+    """Each book with what half of its limit costs, and the whole."""
+    sides = [(name, keys) for name in names for keys in (LIMIT // 2, LIMIT)]
+    at_once = (os.cpu_count() or 1) if VALGRIND else 1
+    with tempfile.TemporaryDirectory() as room, concurrent.futures.ThreadPoolExecutor(at_once) as pool:
+        costs = list(pool.map(lambda side: cost(program, room, *side), sides))
+    return zip(names, costs[::2], costs[1::2])
+
+
+def main():
+    program, *asked = sys.argv[1:]
+    names = list(books.BOOKS) if asked == ["all"] else asked or list(books.HELD)
+    most, findings = MOST if VALGRIND else MOST_BY_TIME, 0
+    for name, half, whole in tried(program, names):
+        if asked:
+            print(f"growth: {name}: {half} and {whole}, {whole / half:.2f} times")
+        elif whole > most * half:
+            findings += 1
+            print(f"growth: {name}: {half} and {whole}, {whole / half:.2f} times")
+    if findings:
+        sys.exit(1)
+    skipped = "" if VALGRIND else ", skipped: instructions, as there is no valgrind"
+    print(f"growth: {len(names)} books, no finding{skipped}")
+
+
+if __name__ == "__main__":
+    main()
