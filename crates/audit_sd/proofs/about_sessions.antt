@@ -1,3 +1,4 @@
 pub mod PairLemmas
 pub mod HistoryLemmas
 pub mod ReasonLemmas
+pub mod OtherLemmas

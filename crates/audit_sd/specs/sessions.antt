@@ -3,3 +3,4 @@ pub mod SessionBooks
 pub mod Histories
 pub mod Examples
 pub mod Reasons
+pub mod OtherPairs

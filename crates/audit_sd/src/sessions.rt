@@ -10,6 +10,7 @@ mod finding;
 mod last;
 pub mod laws;
 mod message;
+mod others;
 mod session_book;
 
 pub use finding::Finding;

@@ -8,15 +8,15 @@ ghost use Rattle.sd_session.specs.Peers.{shows_reboot};
 ghost use Rattle.audit_sd.specs.sessions.SessionRules.{as_last, counts, is_little_below, is_overtaken};
 ghost use Rattle.audit_sd.specs.sessions.SessionRules.{is_overtaken_by, is_same_stamp, judged, stamp_of};
 ghost use Rattle.audit_sd.specs.sessions.SessionRules.{told_uncounted};
-ghost use Rattle.audit_sd.specs.sessions.SessionBooks.{is_other, last_of, needs_memory, no_sessions, pair_cmp};
+ghost use Rattle.audit_sd.specs.sessions.SessionBooks.{last_of, needs_memory, no_sessions, pair_cmp};
 ghost use Rattle.audit_sd.specs.sessions.SessionBooks.{pairs_after, sessions_after, told_by};
 
 use crate::sessions::finding::Finding;
 use crate::sessions::last::Last;
 use crate::sessions::message::SdMessage;
+use crate::sessions::others::forget_others;
 use sd_session::Stamp;
 use someip_tables::hashed::Room;
-use someip_tables::is_same_key;
 use std::alloc::{AllocError, Global};
 use std::collections::BTreeMap;
 use std::marker::Model;
@@ -190,18 +190,6 @@ fn stamp_of(last: Option<Last>) -> Option<Stamp>
         Some(last) => Some(last.stamp),
         None => None,
     }
-}
-
-/// Forgets what a sender sent, but for what it sent to one destination.
-fn forget_others(
-    last: &mut BTreeMap<(Ipv4Addr, Ipv4Addr), Last>,
-    sender: Ipv4Addr,
-    destination: Ipv4Addr,
-)
-    ensures { map_of pair_cmp last.new.entries
-        ≡ finite.retain_keys (map_of pair_cmp last.old.entries) (is_other sender destination) }
-{
-    last.retain(|pair, _| !is_same_key(&pair.0, &sender) || is_same_key(&pair.1, &destination));
 }
 
 /// What a message with this stamp shows, by the last one of its sender to its destination.
