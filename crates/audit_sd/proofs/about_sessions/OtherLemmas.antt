@@ -98,8 +98,8 @@ module _ (sender destination : Ipv4Addr) where
       pub none_there_after : (e : (Ipv4Addr × Ipv4Addr) × Last) (more : List ((Ipv4Addr × Ipv4Addr) × Last)) → rest ≡ e ∷ more → (e.0.0 ≡ sender → ⊥)
           → (to : Ipv4Addr) → address_cmp destination to ≡ Less → finite.get (map_of pair_cmp held.entries) (sender, to) ≡ None
       none_there_after e more is elsewhere to place = absent_or to (λ there.
-        let least : IsLeBy pair_cmp e.0 (sender, to) = subst (λ r. IfSome (slice_get r 0) (λ x. IsLeBy pair_cmp x.0 (sender, to))) is (range.2 (sender, to) (from_place to place, tt) there) in
-        elsewhere (same_by_test exact_addresses e.0.0 sender (after_same e.0 to (first_is e more is).0.0 least)))
+          let least : IsLeBy pair_cmp e.0 (sender, to) = subst (λ r. IfSome (slice_get r 0) (λ x. IsLeBy pair_cmp x.0 (sender, to))) is (range.2 (sender, to) (from_place to place, tt) there) in
+          elsewhere (same_by_test exact_addresses e.0.0 sender (after_same e.0 to (first_is e more is).0.0 least)))
 
     module _ (range : IsRangeOf pair_cmp Unbounded (Excluded (sender, destination)) held rest) where
       pub before_other : (e : (Ipv4Addr × Ipv4Addr) × Last) (more : List ((Ipv4Addr × Ipv4Addr) × Last)) → rest ≡ more ++ e ∷ [] → e.0.0 ≡ sender → is_other sender destination e.0 ≡ false
@@ -114,7 +114,7 @@ module _ (sender destination : Ipv4Addr) where
       pub none_there_before : (e : (Ipv4Addr × Ipv4Addr) × Last) (more : List ((Ipv4Addr × Ipv4Addr) × Last)) → rest ≡ more ++ e ∷ [] → (e.0.0 ≡ sender → ⊥)
           → (to : Ipv4Addr) → address_cmp to destination ≡ Less → finite.get (map_of pair_cmp held.entries) (sender, to) ≡ None
       none_there_before e more is elsewhere to place = absent_or to (λ there.
-        elsewhere (same_by_test exact_addresses e.0.0 sender (before_same e.0 to (range.3 e more is).0.1 (range.4 e more is (sender, to) (tt, to_place to place) there))))
+          elsewhere (same_by_test exact_addresses e.0.0 sender (before_same e.0 to (range.3 e more is).0.1 (range.4 e more is (sender, to) (tt, to_place to place) there))))
 
 -- ---- all of them
 

@@ -67,7 +67,11 @@ fn next_after(last: &Lasts, sender: Ipv4Addr, destination: Ipv4Addr) -> Option<(
 }
 
 /// The next pair of a sender before that of a destination.
-fn next_before(last: &Lasts, sender: Ipv4Addr, destination: Ipv4Addr) -> Option<(Ipv4Addr, Ipv4Addr)>
+fn next_before(
+    last: &Lasts,
+    sender: Ipv4Addr,
+    destination: Ipv4Addr,
+) -> Option<(Ipv4Addr, Ipv4Addr)>
     ensures other { IfSome result (λ pair. is_other sender destination pair ≡ false) }
     ensures held { IfSome result (λ pair. is_some (finite.get (map_of pair_cmp last.now.entries) pair) ≡ true) }
     ensures none { IfNone result ((to : Ipv4Addr) → address_cmp to destination ≡ Less
