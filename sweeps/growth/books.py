@@ -98,6 +98,11 @@ def reboots_of_offers(count):
     return reboots(count, lambda number: [entry(1, number, node(number, 30509))])
 
 
+def reboots_of_subscribes(count):
+    """Subscribes that wait, of which none stands, since they have no endpoint."""
+    return reboots(count, lambda number: [entry(6, 0)], A)
+
+
 def reboots_of_clients(count):
     return reboots(count, lambda number: [entry(6, 0, node(number, 40000))], A)
 
@@ -232,8 +237,8 @@ def named(*makers):
 
 
 # What holds, and what still goes over a whole book at each hit.
-HELD = named(event_receivers, calls, gaps, ways, offers)
+HELD = named(event_receivers, reboots, reboots_of_offers, reboots_of_subscribes, calls, gaps, ways, offers)
 BOOKS = HELD | named(
-    event_changes, event_changes_at_once, event_withdrawals, reboots, reboots_of_offers, reboots_of_clients,
-    reboots_of_servers, reboots_of_senders, reboots_of_receivers, events_to_subscriptions, events_to_nobody,
-    subscribes_after_told, withdrawals_of_subscriptions, stops_of_subscriptions, expiring)
+    event_changes, event_changes_at_once, event_withdrawals, reboots_of_clients, reboots_of_servers, reboots_of_senders,
+    reboots_of_receivers, events_to_subscriptions, events_to_nobody, subscribes_after_told,
+    withdrawals_of_subscriptions, stops_of_subscriptions, expiring)
