@@ -13,12 +13,13 @@ use Rattle.someip_explore.specs.declared.moves.Move.{Move}
 use Rattle.someip_explore.specs.declared.search.Explored.{Explored}
 use Rattle.someip_explore.specs.declared.search.Explored.TheVariants as explored
 use Rattle.someip_explore.specs.declared.search.Judgement.TheVariants.{Bad, Missed, Reached}
-use Rattle.someip_explore.specs.Exploring.{ExploresTo, IsTraced, exploration_of, judged_by, judgement_of}
+use Rattle.someip_explore.specs.Exploring.{ExploresTo, IsTraced, exploration_of, judged_by, judged_count, judgement_of}
 use Rattle.someip_explore.specs.Goals.{Goal, run_reaches}
 use Rattle.someip_explore.specs.LimitValues.{LimitValues}
 use Rattle.someip_explore.specs.Moves.{next_by, next_steps, stands_for}
 use Rattle.someip_explore.specs.Searching.{Explores}
 use Rattle.someip_explore.specs.Traces.{trace_of, verdict_of}
+use Rattle.someip_explore.specs.Watching.{HearsOf, judged_in}
 use Rattle.someip_explore.proofs.TraceLemmas.{comes_to_trace}
 use Rattle.someip_explore.proofs.OneVerdict.{one_verdict}
 
@@ -70,3 +71,10 @@ explores_by nodes moves goal limits beginning steps found done longest most is f
     (subst (λ n. Explores (next_steps nodes moves) (judgement_of nodes goal n) limits.steps limits.schedules beginning steps.items found) is
     (subst (λ n. Explores (next_steps nodes moves) (judgement_of nodes goal done) n limits.schedules beginning steps.items found) far
     (subst (λ n. Explores (next_steps nodes moves) (judgement_of nodes goal done) longest n beginning steps.items found) many explores)))
+
+-- the search judged as many as are told of it
+pub watched_so : {W : Type 0} (hears : W → ℕ → W → Type 0) (limits : LimitValues) (steps : global.Vec Step) (found : Explored) (most : ℕ) (old new : W) → most ≡ limits.schedules
+    → HearsOf hears (judged_in most found) old new → HearsOf hears (judged_count limits (exploration_of steps found)) old new
+watched_so hears limits steps (explored.Found count) most old new is heard = heard
+watched_so hears limits steps (explored.None count) most old new is heard = heard
+watched_so hears limits steps (explored.Stopped covered) most old new is heard = subst (λ n. HearsOf hears n old new) is heard

@@ -4,6 +4,7 @@ pub mod PlanLemmas
 pub mod TraceLemmas
 pub mod SearchLemmas
 pub mod SearchMeaning
+pub mod WatchLemmas
 pub mod GoalLemmas
 pub mod MoveLemmas
 pub mod OneVerdict

@@ -114,6 +114,15 @@ module _ {S : Type 0} (judge : List S → Judgement) (most : ℕ) where
       cases Reached is same rest =
           subst (λ j. Means n (x ∷ xs) (then_search (search_one most n x j) (search_all judge most xs))) (sym is) (of_reached (nat_lt n most) refl is)
 
+  -- no more are judged than may be
+  pub within_most : (xs : List (List S)) (n m : ℕ) (old new : List S) → n ≤ most → Comes (search_all judge most xs n) (ends.Passed m) old new → m ≤ most
+  within_most xs n m old new le c = cases (search_all judge most xs n) (means xs n le) c
+    where
+      cases : (o : Outcome S) → Means n xs o → Comes o (ends.Passed m) old new → m ≤ most
+      cases (Passed k) means c = subst (λ k. k ≤ most) (sym c.0) means.2
+      cases (Found x k) means c = absurd c
+      cases Full means c = absurd c
+
 -- ---- lengths one after the other
 
 put_together : {X : Type 0} (a b c d : List X) (x : X) → (a ++ (b ++ x ∷ c)) ++ d ≡ (a ++ b) ++ x ∷ (c ++ d)

@@ -43,6 +43,12 @@ exploration_of steps (explored.Found count) = exploration.Found steps count
 exploration_of steps (explored.None count) = exploration.None count
 exploration_of steps (explored.Stopped covered) = exploration.Stopped covered
 
+-- how many good schedules were judged: where the search was stopped, as many as may be
+abbrev pub judged_count : LimitValues → Exploration → ℕ
+judged_count limits (exploration.Found schedule count) = count
+judged_count limits (exploration.None count) = count
+judged_count limits (exploration.Stopped covered) = limits.schedules
+
 module _ (nodes : List SetupNode) (moves : List Move) (goal : Goal) (limits : LimitValues) (beginning : List Step) where
   -- the schedules that are tried, in their order: those that begin so and go on by moves, at most so many
   abbrev pub tried : ℕ → List (List Step)

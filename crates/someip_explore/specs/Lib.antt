@@ -7,6 +7,7 @@ pub mod GoalExamples
 pub mod Moves
 pub mod MoveExamples
 pub mod LimitValues
+pub mod Watching
 pub mod Exploring
 pub mod MoveWords
 pub mod Misfits

@@ -1,8 +1,9 @@
 //! All schedules of some moves, up to a length.
 ghost use Rattle.std.specs.Prelude.{◌≡◌, IfOk};
-ghost use Rattle.someip_explore.specs.Exploring.{ExploresTo, exploration_of, judgement_of};
+ghost use Rattle.someip_explore.specs.Exploring.{ExploresTo, exploration_of, judged_count, judgement_of};
 ghost use Rattle.someip_explore.specs.GoalViews.{goal_of};
 ghost use Rattle.someip_explore.specs.Moves.{next_steps};
+ghost use Rattle.someip_explore.specs.Watching.{Watched};
 
 use crate::goal::Goal;
 use crate::limits::Limits;
@@ -10,6 +11,7 @@ use crate::moves::{Move, steps_after};
 use crate::reaching::run_reaches;
 use crate::search::{Explored, Game, Judgement, search_up_to};
 use crate::traced::run_traced;
+use crate::watching::Watcher;
 use someip_tp::Reassembly;
 use someip_world::{RunError, Setup, Step};
 use std::alloc::{AllocError, Global};
@@ -101,16 +103,19 @@ fn exploration_of(steps: Vec<Step>, explored: Explored) -> Exploration
 /// is the same for each store of segments `R`. `SegmentList` reserves no memory, so its nodes start fast.
 ///
 /// It finds the first that reaches the goal, or none does; or more are good than the limits allow. An error
-/// says that memory ran out.
-pub fn explore<R: Reassembly>(
+/// says that memory ran out. The watcher is told of each million schedules that were judged, and changes nothing
+/// of what comes of it.
+pub fn explore<R: Reassembly, W: Watcher>(
     alloc: Global,
     setup: &Setup,
     beginning: Vec<Step>,
     moves: &[Move],
     goal: &Goal,
     limits: Limits,
+    watcher: &mut W,
 ) -> Result<Exploration, AllocError>
-    ensures { IfOk result (ExploresTo setup.now.nodes moves.now (goal_of goal.now) limits beginning.items) }
+    ensures explored { IfOk result (ExploresTo setup.now.nodes moves.now (goal_of goal.now) limits beginning.items) }
+    ensures watched { Watched W.hears (judged_count limits) result watcher.old watcher.new }
 {
     let explorer = Explorer::<R> {
         alloc,
@@ -121,6 +126,12 @@ pub fn explore<R: Reassembly>(
         store: PhantomData,
     };
     let mut steps = beginning;
-    let explored = search_up_to(&explorer, &mut steps, limits.steps(), limits.schedules())?;
+    let explored = search_up_to(
+        &explorer,
+        &mut steps,
+        limits.steps(),
+        limits.schedules(),
+        watcher,
+    )?;
     Ok(exploration_of(steps, explored))
 }

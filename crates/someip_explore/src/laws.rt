@@ -26,6 +26,7 @@ ghost use Rattle.someip_explore.specs.MoveWords.{move_of_words};
 ghost use Rattle.someip_explore.specs.Moves.{next_steps, numbers_to, stands_for};
 ghost use Rattle.someip_explore.specs.Search.{MayGoOn, up_to};
 ghost use Rattle.someip_explore.specs.Traces.{trace_of, verdict_of};
+ghost use Rattle.someip_explore.specs.Watching.{millions_to};
 
 use someip_world::run_laws::all_that_a_setup_gives_fits;
 use someip_world::{Setup, Step};
@@ -122,6 +123,13 @@ pub fn moves_are_read_by_example()
         (codes "answer" ∷ codes "a" ∷ codes "0" ∷ codes "00" ∷ codes "-" ∷ [])) }
     ensures answer_of_any { move_of_words
         (codes "answer" ∷ codes "*" ∷ codes "*" ∷ codes "00" ∷ codes "-" ∷ []) ≡ None }
+{}
+
+/// Examples: of which numbers of schedules a watcher hears.
+pub fn watchers_hear_by_example()
+    ensures none { millions_to 999999 ≡ [] }
+    ensures one { millions_to 1000000 ≡ 1000000 ∷ [] }
+    ensures two { millions_to 2999999 ≡ 1000000 ∷ 2000000 ∷ [] }
 {}
 
 /// Examples: in a trace of three lines an Ack is dropped in the second step, after an instance was gone. Lines

@@ -5,6 +5,7 @@
 //! - [`Move`]: by which steps a schedule may go on, as a line spells it; [`PlainMove`] is one of a single step;
 //! - [`Goal`]: what a schedule is to bring about;
 //! - [`Judgement`]: what a schedule comes to; [`Explored`]: what a search among schedules comes to;
+//! - [`Watcher`]: who is told how far a search has come;
 //! - [`laws`]: that one schedule has one trace and one verdict; which schedules are tried; examples.
 //!
 //! `search` knows nothing of nodes: it tries lists of steps, by a trait that says how one may go on and what
@@ -27,6 +28,7 @@ mod plain_move;
 mod reaching;
 mod search;
 mod traced;
+mod watching;
 mod words;
 
 pub use exploring::{Exploration, explore};
@@ -35,3 +37,4 @@ pub use limits::Limits;
 pub use moves::Move;
 pub use plain_move::PlainMove;
 pub use search::{Explored, Judgement};
+pub use watching::Watcher;

@@ -1,8 +1,10 @@
 //! The search: all schedules up to a length, shorter ones first.
-ghost use Rattle.std.specs.Prelude.{◌≡◌, ◌<◌, IfOk};
+ghost use Rattle.std.specs.Prelude.{◌≡◌, ◌<◌, ◌≤◌, IfOk};
 ghost use Rattle.someip_explore.specs.Search.{longer_by};
 ghost use Rattle.someip_explore.specs.Searching.{Comes, Explores, search_all, search_one};
+ghost use Rattle.someip_explore.specs.Watching.{HearsOf, Watched, judged_at, judged_in};
 
+use crate::watching::{Watcher, counted};
 use std::alloc::AllocError;
 
 /// What a schedule comes to.
@@ -57,43 +59,51 @@ pub(crate) trait Game<S> {
 }
 
 /// What comes of one schedule, where so many were judged before it.
-fn search_one<S, G: Game<S>>(
+fn search_one<S, G: Game<S>, W: Watcher>(
     game: &G,
     steps: &[S],
     judged: u64,
     most: u64,
+    watcher: &mut W,
 ) -> Result<Ended, AllocError>
-    ensures { IfOk result (λ ended. Comes (search_one most judged steps.now
+    requires { judged ≤ most }
+    ensures ended { IfOk result (λ ended. Comes (search_one most judged steps.now
         (G.comes_to game.now steps.now)) ended steps.now steps.now) }
+    ensures watched { (first : W) → HearsOf W.hears judged first watcher.old
+        → Watched W.hears (judged_at most) result first watcher.new }
 {
     Ok(match game.judge(steps)? {
         Judgement::Bad => Ended::Passed(judged),
         _ if judged >= most => Ended::Full,
-        Judgement::Missed => Ended::Passed(judged + 1),
-        Judgement::Reached => Ended::Found(judged + 1),
+        Judgement::Missed => Ended::Passed(counted(watcher, judged)),
+        Judgement::Reached => Ended::Found(counted(watcher, judged)),
     })
 }
 
 /// Tries all schedules with so many more steps behind some. The first that reaches the goal stays.
-pub(crate) fn search_behind<S: Drop, G: Game<S>>(
+pub(crate) fn search_behind<S: Drop, G: Game<S>, W: Watcher>(
     game: &G,
     steps: &mut Vec<S>,
     left: usize,
     judged: u64,
     most: u64,
+    watcher: &mut W,
 ) -> Result<Ended, AllocError>
-    ensures { IfOk result (λ ended. Comes (search_all (G.comes_to game.now) most
+    requires { judged ≤ most }
+    ensures ended { IfOk result (λ ended. Comes (search_all (G.comes_to game.now) most
         (longer_by (G.goes_on game.now) left steps.old.items) judged)
         ended steps.old.items steps.new.items) }
+    ensures watched { (first : W) → HearsOf W.hears judged first watcher.old
+        → Watched W.hears (judged_at most) result first watcher.new }
 {
     if left == 0 {
-        return search_one(game, steps.as_slice(), judged, most);
+        return search_one(game, steps.as_slice(), judged, most, watcher);
     }
     let choices = game.next(steps.as_slice())?;
     let mut judged = judged;
     for step in choices {
         steps.push(step)?;
-        match search_behind(game, steps, left - 1, judged, most)? {
+        match search_behind(game, steps, left - 1, judged, most, watcher)? {
             Ended::Passed(now) => judged = now,
             ended => return Ok(ended),
         }
@@ -104,21 +114,23 @@ pub(crate) fn search_behind<S: Drop, G: Game<S>>(
 
 /// Tries all schedules with at most so many more steps behind some, the shorter ones first, of which at
 /// most so many may be judged. The first that reaches the goal stays.
-pub(crate) fn search_up_to<S: Drop, G: Game<S>>(
+pub(crate) fn search_up_to<S: Drop, G: Game<S>, W: Watcher>(
     game: &G,
     steps: &mut Vec<S>,
     longest: usize,
     most: u64,
+    watcher: &mut W,
 ) -> Result<Explored, AllocError>
     requires longest { longest < usize.MAX }
     requires most { 0 < most }
-    ensures { IfOk result (Explores (G.goes_on game.now) (G.comes_to game.now) longest most
+    ensures explored { IfOk result (Explores (G.goes_on game.now) (G.comes_to game.now) longest most
         steps.old.items steps.new.items) }
+    ensures watched { Watched W.hears (judged_in most) result watcher.old watcher.new }
 {
     let mut judged = 0;
     let mut covered = 0;
     for count in 0..longest + 1 {
-        match search_behind(game, steps, count, judged, most)? {
+        match search_behind(game, steps, count, judged, most, watcher)? {
             Ended::Passed(now) => judged = now,
             Ended::Found(now) => return Ok(Explored::Found(now)),
             Ended::Full => return Ok(Explored::Stopped(covered)),

@@ -2,12 +2,14 @@ use Rattle.std.proofs.Common.{arith, subst, sym}
 use Rattle.someip_explore.specs.declared.search.Explored.TheVariants as explored
 use Rattle.someip_explore.specs.Search.{longer_by}
 use Rattle.someip_explore.specs.Searching.{Comes, Explores, search_all}
+use Rattle.someip_explore.specs.Watching.{HearsOf, judged_at, judged_in}
+use Rattle.someip_explore.proofs.WatchLemmas.{watched_until}
 use Rattle.someip_explore.proofs.SearchMeaning.{found_there, full_there, passed_on}
 use Rattle.someip_explore.proofs.search.search_up_to.Goals as goal
 
 -- src/search.rt:123:34
-pub returns-in-Found : goal.returns-in-Found
-returns-in-Found g c =
+pub returns-in-Found-clause-explored : goal.returns-in-Found-clause-explored
+returns-in-Found-clause-explored g c =
     let judge = g.G.Game.comes_to c.args.game.now in
     let next = g.G.Game.goes_on c.args.game.now in
     let old = c.args.steps.now.items in
@@ -15,11 +17,11 @@ returns-in-Found g c =
     found_there next judge old c.args.most c.loop-count.count c.loop-count.judged here.within here.so_far c.args.longest (omega (arith, c.loop-count-test.true)) c.in-Found.now
     c.search_behind.new.steps.items
     (subst (λ e. Comes (search_all judge c.args.most (longer_by next c.loop-count.count old) c.loop-count.judged) e old c.search_behind.new.steps.items) c.in-Found.is
-    (subst (λ xs. Comes (search_all judge c.args.most (longer_by next c.loop-count.count xs) c.loop-count.judged) c.in_ok-now.field-0 xs c.search_behind.new.steps.items) here.same c.in_ok-now.ensures))
+    (subst (λ xs. Comes (search_all judge c.args.most (longer_by next c.loop-count.count xs) c.loop-count.judged) c.in_ok-now.field-0 xs c.search_behind.new.steps.items) here.same c.in_ok-now.ensures.ended))
 
 -- src/search.rt:124:28
-pub returns-in-Full : goal.returns-in-Full
-returns-in-Full g c =
+pub returns-in-Full-clause-explored : goal.returns-in-Full-clause-explored
+returns-in-Full-clause-explored g c =
     let judge = g.G.Game.comes_to c.args.game.now in
     let next = g.G.Game.goes_on c.args.game.now in
     let old = c.args.steps.now.items in
@@ -28,7 +30,7 @@ returns-in-Full g c =
     (full_there next judge old c.args.most c.loop-count.count c.loop-count.judged here.within here.so_far c.args.longest (omega (arith, c.loop-count-test.true)) c.requires.most
     c.search_behind.new.steps.items c.search_behind.new.steps.items
     (subst (λ e. Comes (search_all judge c.args.most (longer_by next c.loop-count.count old) c.loop-count.judged) e old c.search_behind.new.steps.items) c.in-Full.is
-    (subst (λ xs. Comes (search_all judge c.args.most (longer_by next c.loop-count.count xs) c.loop-count.judged) c.in_ok-now.field-0 xs c.search_behind.new.steps.items) here.same c.in_ok-now.ensures)))
+    (subst (λ xs. Comes (search_all judge c.args.most (longer_by next c.loop-count.count xs) c.loop-count.judged) c.in_ok-now.field-0 xs c.search_behind.new.steps.items) here.same c.in_ok-now.ensures.ended)))
 
 -- src/search.rt:120:5
 pub loop-count-preserved : goal.loop-count-preserved
@@ -40,5 +42,27 @@ loop-count-preserved g c =
     let on =
     passed_on next judge old c.args.most c.loop-count.count c.loop-count.judged here.within here.so_far c.in-Passed.now c.search_behind.new.steps.items
     (subst (λ e. Comes (search_all judge c.args.most (longer_by next c.loop-count.count old) c.loop-count.judged) e old c.search_behind.new.steps.items) c.in-Passed.is
-    (subst (λ xs. Comes (search_all judge c.args.most (longer_by next c.loop-count.count xs) c.loop-count.judged) c.in_ok-now.field-0 xs c.search_behind.new.steps.items) here.same c.in_ok-now.ensures)) in
-    record { same = on.2; within = on.1; covered = omega arith; so_far = on.0 }
+    (subst (λ xs. Comes (search_all judge c.args.most (longer_by next c.loop-count.count xs) c.loop-count.judged) c.in_ok-now.field-0 xs c.search_behind.new.steps.items) here.same c.in_ok-now.ensures.ended)) in
+    record {
+      same = on.2;
+      within = on.1;
+      covered = omega arith;
+      so_far = on.0;
+      watched = subst (λ e. HearsOf g.W.Watcher.hears (judged_at c.args.most e) c.args.watcher.now c.search_behind.new.watcher) c.in-Passed.is
+          (c.in_ok-now.ensures.watched c.args.watcher.now here.watched);
+    }
+
+pub returns-in-Found-clause-watched : goal.returns-in-Found-clause-watched
+returns-in-Found-clause-watched g c =
+    subst (λ e. HearsOf g.W.Watcher.hears (judged_at c.args.most e) c.args.watcher.now c.search_behind.new.watcher) c.in-Found.is
+    (c.in_ok-now.ensures.watched c.args.watcher.now c.loop-count.invariant.watched)
+
+pub returns-in-Full-clause-watched : goal.returns-in-Full-clause-watched
+returns-in-Full-clause-watched g c =
+    subst (λ e. HearsOf g.W.Watcher.hears (judged_at c.args.most e) c.args.watcher.now c.search_behind.new.watcher) c.in-Full.is
+    (c.in_ok-now.ensures.watched c.args.watcher.now c.loop-count.invariant.watched)
+
+pub returns-in_err-now-clause-watched : goal.returns-in_err-now-clause-watched
+returns-in_err-now-clause-watched g c =
+    watched_until g.W.Watcher.hears (judged_in c.args.most) c.from_residual.result c.args.watcher.now c.search_behind.new.watcher c.from_residual.ensures.0
+    (c.in_err-now.ensures.watched c.args.watcher.now c.loop-count.invariant.watched)
