@@ -160,6 +160,8 @@ def asked(program, search, room):
     moves.write_text("# Moves.\n\n" + "".join(f"{move}\n" for move in search.moves))
     words = [program, "explore", "--after", str(after), "--steps", str(search.longest)]
     words += ["--most", str(search.most)] if search.most else []
+    # It judges less than a million, so nothing is told, and nothing changes.
+    words += ["--progress"] if search.longest % 2 else []
     words += [word for text in search.once for word in ("--once", text)]
     words += [word for text in search.never for word in ("--never", text)]
     done = subprocess.run([*words, str(search.setup.path), str(moves), search.goal], capture_output=True, text=True,

@@ -41,6 +41,7 @@ HELP = (
     ("someipctl|help|explore", "Usage: someipctl explore [OPTIONS] <SETUP> <MOVES> <GOAL>\n"),
     ("someipctl|help|explore", "      --never <WORDS>     Only where no line with these words came before; may be "
      "given several times\n"),
+    ("someipctl|help|explore", "      --progress          Tells on standard error of each million schedules that were judged\n"),
 )
 USAGE = (
     ("someipctl|vectors", "Usage: someipctl vectors <FILE>\n"),

@@ -131,10 +131,12 @@ audit_usage = (with_rule audit_options (required_many (codes "file"))).top
 abbrev pub with_conditions : App → App
 with_conditions app = with_rule (with_rule app (valued_many (codes "once"))) (valued_many (codes "never"))
 
--- `explore [--after SCHEDULE] [--steps N] [--most M] [--once WORDS].. [--never WORDS].. SETUP MOVES GOAL`
+-- `explore [--after SCHEDULE] [--steps N] [--most M] [--once WORDS].. [--never WORDS].. [--progress] SETUP MOVES GOAL`
 abbrev pub explore_options : App
 explore_options =
-    with_conditions (with_rule (with_rule (with_rule (new_app (codes "explore")) (valued (codes "after"))) (valued (codes "steps"))) (valued (codes "most")))
+    with_rule
+    (with_conditions (with_rule (with_rule (with_rule (new_app (codes "explore")) (valued (codes "after"))) (valued (codes "steps"))) (valued (codes "most"))))
+    (flag (codes "progress"))
 
 abbrev pub explore_usage : Shape
 explore_usage = (with_rule (with_rule (with_rule explore_options (required (codes "setup"))) (required (codes "moves"))) (required (codes "goal"))).top
@@ -211,6 +213,7 @@ pub record ExploreRequest : Type 0 where
   pub most : Option Text
   pub once : List Text
   pub never : List Text
+  pub progress : Bool
 
 -- a command, without where its words lie in memory
 pub data Request : Type 0 where
@@ -273,7 +276,14 @@ asked_by_audit_options o = record {
 }
 
 abbrev pub asked_by_explore_options : ExploreOptions → ExploreRequest
-asked_by_explore_options o = record { after = text_at o.after; steps = text_at o.steps; most = text_at o.most; once = texts_at o.once.items; never = texts_at o.never.items }
+asked_by_explore_options o = record {
+  after = text_at o.after;
+  steps = text_at o.steps;
+  most = text_at o.most;
+  once = texts_at o.once.items;
+  never = texts_at o.never.items;
+  progress = o.progress;
+}
 
 -- what a command asks for
 abbrev pub asked_by_command : Command → Request
@@ -405,8 +415,14 @@ asked_by_audit value values = option_map (λ file. audit_request (values (codes 
 
 -- the options of `explore`, by the first value of each, and all
 abbrev pub explore_options_by : (Text → Option Text) → (Text → List Text) → ExploreRequest
-explore_options_by value values =
-    record { after = value (codes "after"); steps = value (codes "steps"); most = value (codes "most"); once = values (codes "once"); never = values (codes "never") }
+explore_options_by value values = record {
+  after = value (codes "after");
+  steps = value (codes "steps");
+  most = value (codes "most");
+  once = values (codes "once");
+  never = values (codes "never");
+  progress = is_on (value (codes "progress"));
+}
 
 -- what `explore` asks for
 abbrev pub asked_by_explore : (Text → Option Text) → (Text → List Text) → Option Request

@@ -475,7 +475,7 @@ fn settings_matched<'w>(matches: &ArgMatches<'w>) -> SettingOptions<'w>
 }
 
 /// Whether an option without a value was given.
-fn is_given(matches: &ArgMatches<'_>, name: &str) -> bool
+pub(crate) fn is_given(matches: &ArgMatches<'_>, name: &str) -> bool
     ensures { result ≡ is_on (first_value (found_of matches.now) name.now) }
 {
     match matches.get_str(name) {

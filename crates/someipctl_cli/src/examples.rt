@@ -128,7 +128,9 @@ prints the shortest schedule after which node b knows an instance of node a, rea
 exit status is 1. Where no schedule reaches GOAL it prints
   none within 6 steps, M schedules
 with the number of schedules that can happen, and the exit status is 0. Where more than --most can
-happen it prints `none of up to L steps, stopped after M schedules`, and the exit status is 1.";
+happen it prints `none of up to L steps, stopped after M schedules`, and the exit status is 1. With
+--progress standard error has a line for each million schedules that were judged:
+  1000000 schedules";
 
 /// Of `recording`.
 pub(crate) const RECORDING_EXAMPLE: &str = "\

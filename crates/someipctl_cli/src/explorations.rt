@@ -1,11 +1,15 @@
 //! The command `explore`, over the files that it names.
+ghost use Rattle.std.specs.Prelude.{◌≡◌, true, false};
+ghost use Rattle.someipctl_explore.specs.declared.notes.Progress.TheVariants.{Lines, Silent};
+
+use crate::error_writer::ErrorWriter;
 use crate::explore_words::ExploreOptions;
 use crate::failure::{Failure, OptionName, Refusal};
 use crate::runs::setup_at;
 use crate::source::open_file;
 use someip_explore::{Limits, Move};
 use someip_world::Setup;
-use someipctl_explore::{explore_schedules, goal_in, read_moves};
+use someipctl_explore::{Notes, Progress, explore_schedules, goal_in, read_moves};
 use someipctl_io::{Fault, Outcome, read_all};
 use someipctl_recordings::number_within;
 use std::io;
@@ -27,7 +31,7 @@ const SCHEDULES: u64 = 10_000_000;
 /// Tries the schedules of some moves over a setup. Whatever is wrong with the options is told before a file is
 /// looked at, and whatever is wrong with the setup before the moves. Then come the words of the goal, and the
 /// schedule that all begin with.
-pub(crate) fn explore_files<'p, R: Files + Print + AllocGlobal>(
+pub(crate) fn explore_files<'p, R: Files + Print + Eprint + AllocGlobal>(
     rt: &R,
     setup: &'p str,
     moves: &'p str,
@@ -41,7 +45,7 @@ pub(crate) fn explore_files<'p, R: Files + Print + AllocGlobal>(
 }
 
 /// The same, where setup, moves and limits are right.
-fn explore_moves<'p, R: Files + Print + AllocGlobal>(
+fn explore_moves<'p, R: Files + Print + Eprint + AllocGlobal>(
     rt: &R,
     network: &Setup,
     moves: &[Move],
@@ -56,7 +60,12 @@ fn explore_moves<'p, R: Files + Print + AllocGlobal>(
         Err(fault) => return Err(Failure::of(fault.map(Refusal::Goal), "")),
     };
     let text = beginning_at(rt, options.after)?;
-    let mut writer = io::writer(rt);
+    // Where standard error can't be written, the search goes on all the same.
+    let mut notes = Notes {
+        alloc: rt.alloc(),
+        progress: progress_of(options.progress),
+        writer: ErrorWriter::new(rt),
+    };
     explore_schedules(
         rt.alloc(),
         network,
@@ -64,9 +73,22 @@ fn explore_moves<'p, R: Files + Print + AllocGlobal>(
         moves,
         &goal,
         limits,
-        &mut writer,
+        &mut notes,
+        &mut io::writer(rt),
     )
     .map_err(|fault| Failure::of(fault.map(Refusal::Schedule), ""))
+}
+
+/// Whether it is told how far the search has come.
+fn progress_of(progress: bool) -> Progress
+    ensures lines { progress ≡ true → result ≡ Lines }
+    ensures silent { progress ≡ false → result ≡ Silent }
+{
+    if progress {
+        Progress::Lines
+    } else {
+        Progress::Silent
+    }
 }
 
 /// How far the search goes.

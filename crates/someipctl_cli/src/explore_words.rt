@@ -6,9 +6,9 @@ ghost use Rattle.someipctl_cli.specs.CommandLine.{asked_by_command, asked_by_exp
 ghost use Rattle.someipctl_cli.specs.CommandLine.{explore_options_by, explore_usage, texts_at, valued_many};
 ghost use Rattle.someipctl_cli.specs.CommandLine.{values_of, with_conditions};
 
-use crate::command::Command;
+use crate::command::{Command, is_given};
 use crate::examples::EXPLORE_EXAMPLE;
-use crate::grammar::{needed, taking, valued_option};
+use crate::grammar::{flag, needed, taking, valued_option};
 use clap::{Arg, ArgAction, ArgMatches};
 use std::alloc::{AllocError, Global};
 
@@ -25,6 +25,8 @@ pub struct ExploreOptions<'w> {
     pub once: Vec<&'w str>,
     /// Words that no line has before the goal.
     pub never: Vec<&'w str>,
+    /// Whether it is told how far the search has come.
+    pub progress: bool,
 }
 
 /// The command, as `clap` is told of it.
@@ -53,12 +55,18 @@ pub(crate) fn explore_definition<'d>(alloc: Global) -> Result<clap::Command<'d>,
         "M",
         "The schedules that are judged at most, 10000000 without it",
     );
+    let progress = flag(
+        alloc,
+        "progress",
+        "Tells on standard error of each million schedules that were judged",
+    );
     let first = taking(Ok(command), after);
     let second = taking(first, steps);
     let third = add_conditions(alloc, taking(second, most));
-    let fourth = taking(third, needed(alloc, "setup", "SETUP"));
-    let fifth = taking(fourth, needed(alloc, "moves", "MOVES"));
-    taking(fifth, needed(alloc, "goal", "GOAL"))
+    let fourth = taking(third, progress);
+    let fifth = taking(fourth, needed(alloc, "setup", "SETUP"));
+    let sixth = taking(fifth, needed(alloc, "moves", "MOVES"));
+    taking(sixth, needed(alloc, "goal", "GOAL"))
 }
 
 /// The command with the options that say what stands before the goal.
@@ -138,6 +146,7 @@ fn explore_options<'w>(
         most: matches.get_str("most"),
         once: values_matched(alloc, matches, "once")?,
         never: values_matched(alloc, matches, "never")?,
+        progress: is_given(matches, "progress"),
     })
 }
 

@@ -499,7 +499,7 @@ pub(crate) fn valued_option<'d>(
 }
 
 /// An option without a value, by its name.
-fn flag<'d>(alloc: Global, name: &'d str, help: &'d str) -> Arg<'d>
+pub(crate) fn flag<'d>(alloc: Global, name: &'d str, help: &'d str) -> Arg<'d>
     ensures rule { rule_of result ≡ flag_rule name.entry.now }
     ensures local { result.global ≡ false }
 {

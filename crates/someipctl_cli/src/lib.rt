@@ -9,6 +9,7 @@
 //! - `examples`: the text below each help;
 //! - `program`: the words, and the exit status;
 //! - `options`, `source`: what options ask for, and the files that are named;
+//! - `error_writer`: standard error, as a writer;
 //! - `explore_words`: the words of `explore`;
 //! - `recordings`, `runs`, `explorations`: the commands over recordings, and over setups;
 //! - `failure`: why the program failed, with its exit status and its text;
@@ -20,6 +21,7 @@
 #![tactic(auto)]
 
 mod command;
+mod error_writer;
 mod examples;
 mod explorations;
 mod explore_words;

@@ -5,3 +5,4 @@ pub mod StepLemmas
 pub mod TextLemmas
 pub mod GoalLemmas
 pub mod CommandLemmas
+pub mod NoteLemmas

@@ -3,4 +3,5 @@ pub mod WholeSteps
 pub mod ResultTexts
 pub mod GoalTexts
 pub mod MovesTexts
+pub mod Noting
 pub mod Commands

@@ -4,7 +4,9 @@ ghost use Rattle.someip_explore.specs.GoalViews.{goal_of};
 ghost use Rattle.someipctl_run.specs.Commands.{RefusesBeginning, RefusesTrace, SpellsSteps};
 ghost use Rattle.someipctl_run.specs.Faults.{fault_of_run, fault_of_schedule};
 ghost use Rattle.someipctl_explore.specs.Commands.{Explores, ExploresPartly, HasLines, Tells};
+ghost use Rattle.someipctl_explore.specs.Noting.{LeavesNotes, Noted};
 
+use crate::notes::Notes;
 use crate::result_texts::{exploration_text, outcome_of};
 use someip_explore::{Goal, Limits, Move, explore};
 use someip_tp::SegmentList;
@@ -22,26 +24,30 @@ struct Told {
 }
 
 /// Tries the schedules that begin with the steps of a text and go on by moves, over the nodes of a setup, and
-/// then writes the first that reaches the goal, or that none does.
-pub fn explore_schedules<W: Write>(
+/// then writes the first that reaches the goal, or that none does. Meanwhile the notes tell how far it has come.
+pub fn explore_schedules<W: Write, N: Write>(
     alloc: Global,
     setup: &Setup,
     text: &[u8],
     moves: &[Move],
     goal: &Goal,
     limits: Limits,
+    notes: &mut Notes<N>,
     writer: &mut W,
 ) -> Result<Outcome, Fault<ScheduleRefusal>>
-    // What the search comes to was written, byte for byte.
+    // What the search comes to was written, byte for byte, and noted for each million schedules.
     ensures explored { IfOk result (λ outcome. Explores setup.now.nodes text.now moves.now (goal_of goal.now) limits
-        outcome (W.contents writer.old) (W.contents writer.new)) }
+        (Noted N.contents notes.old notes.new) outcome (W.contents writer.old) (W.contents writer.new)) }
     // An error names the first bad line of the text or the first step of it that can't happen, and leaves
     // nothing written, but for one of writing: that leaves a beginning.
     ensures refused { IfErr result (λ fault. RefusesBeginning
-        (ExploresPartly setup.now.nodes text.now moves.now (goal_of goal.now) limits)
+        (ExploresPartly setup.now.nodes text.now moves.now (goal_of goal.now) limits
+        (Noted N.contents notes.old notes.new))
         setup.now.nodes text.now fault (W.contents writer.old) (W.contents writer.new)) }
+    // It leaves what was noted until then.
+    ensures noted { IfErr result (LeavesNotes (Noted N.contents notes.old notes.new)) }
 {
-    let told = explored(alloc, setup, text, moves, goal, limits)?;
+    let told = explored(alloc, setup, text, moves, goal, limits, notes)?;
     match write_text(writer, &told.text) {
         Ok(()) => Ok(told.outcome),
         Err(CannotWrite) => Err(Fault::CannotWrite),
@@ -49,21 +55,23 @@ pub fn explore_schedules<W: Write>(
 }
 
 /// What is told of the search.
-fn explored(
+fn explored<N: Write>(
     alloc: Global,
     setup: &Setup,
     text: &[u8],
     moves: &[Move],
     goal: &Goal,
     limits: Limits,
+    notes: &mut Notes<N>,
 ) -> Result<Told, Fault<ScheduleRefusal>>
     ensures told { IfOk result (λ told. Tells setup.now.nodes text.now moves.now (goal_of goal.now) limits
-        told.outcome told.text.items) }
+        (Noted N.contents notes.old notes.new) told.outcome told.text.items) }
     ensures refused { IfErr result (RefusesTrace setup.now.nodes text.now) }
+    ensures noted { IfErr result (LeavesNotes (Noted N.contents notes.old notes.new)) }
 {
     let beginning = beginning_of(alloc, setup, text)?;
     let done = beginning.len();
-    let found = explore::<SegmentList>(alloc, setup, beginning, moves, goal, limits)?;
+    let found = explore::<SegmentList, _>(alloc, setup, beginning, moves, goal, limits, notes)?;
     let text = exploration_text(alloc, done, limits, &found)?;
     let outcome = outcome_of(&found);
     Ok(Told { text, outcome })
