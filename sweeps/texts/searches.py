@@ -37,7 +37,10 @@ BAD_WORDS = (
     ("c event", "goal: UnknownNode"),
     ("", "goal: UnknownNode"),
     ("B event", "goal: UnknownNode"),
-    ("reuse bad", "goal: UnknownNode"),
+    ("reuse bad", "goal: UnknownWord"),
+    ("reuse Clean", "goal: UnknownWord"),
+    ("reuse  clean", "goal: UnknownWord"),
+    ("Reuse clean", "goal: UnknownNode"),
     ("b evnt", "goal: UnknownWord"),
     ("b ", "goal: UnknownWord"),
     ("b  event", "goal: UnknownWord"),
@@ -55,5 +58,9 @@ def searches():
         yield "two.toml", (), b"deliver * *", goal, told
         yield "two.toml", ("--once", "b known", "--once", goal), b"deliver * *", "b event", told
         yield "two.toml", ("--never", goal), b"deliver * *", "b event", told
+    # The verdict stands before no line.
+    for goal in ("reuse", "reuse clean", "reuse broken"):
+        yield "two.toml", ("--once", goal), b"deliver * *", "reuse clean", "goal: UnknownNode"
+        yield "two.toml", ("--never", goal), b"deliver * *", "reuse clean", "goal: UnknownNode"
     # Moves are looked at before words.
     yield "two.toml", (), b"nothing", "c event", "line 1: bad move"

@@ -1,5 +1,5 @@
 -- The goal that texts spell, and which words can stand in no trace.
-use Rattle.std.specs.Prelude.{ℕ, ◌≡◌, ◌&&◌, ◌||◌, Bool, false, if◌then◌else◌, List, [], ◌∷◌, map, codes, bytes_eq, is_none, Option, Some, None}
+use Rattle.std.specs.Prelude.{ℕ, ◌≡◌, ◌&&◌, ◌||◌, Bool, false, not, if◌then◌else◌, List, [], ◌∷◌, map, codes, bytes_eq, is_none, Option, Some, None}
 use Rattle.std.specs.List.{list_any}
 use Rattle.std.specs.Option.{option_or}
 use Rattle.std.specs.Borrow.{Bor}
@@ -40,14 +40,19 @@ abbrev pub rest_fault : List (List ℕ) → Option GoalRefusal
 rest_fault [] = None
 rest_fault (word ∷ words) = if is_told word then None else Some UnknownWord
 
--- why no line of a trace over these nodes begins with some words
-abbrev pub words_fault : List SetupNode → List (List ℕ) → Option GoalRefusal
-words_fault nodes [] = None
-words_fault nodes (name ∷ words) = if is_none (place_of nodes name) then Some UnknownNode else rest_fault words
-
 -- a verdict tells so
 abbrev pub is_verdict : List ℕ → Bool
 is_verdict word = bytes_eq word (codes "clean") || bytes_eq word (codes "broken")
+
+-- what is wrong with words of which the first is no node: it is none, or it is that of a verdict, which does not tell the second
+abbrev pub unknown_fault : List ℕ → List (List ℕ) → GoalRefusal
+unknown_fault name [] = UnknownNode
+unknown_fault name (word ∷ words) = if bytes_eq name (codes "reuse") && not (is_verdict word) then UnknownWord else UnknownNode
+
+-- why no line of a trace over these nodes begins with some words
+abbrev pub words_fault : List SetupNode → List (List ℕ) → Option GoalRefusal
+words_fault nodes [] = None
+words_fault nodes (name ∷ words) = if is_none (place_of nodes name) then Some (unknown_fault name words) else rest_fault words
 
 -- the line of a verdict may begin with some words
 abbrev pub begins_verdict : List (List ℕ) → Bool

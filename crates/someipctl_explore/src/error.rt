@@ -20,10 +20,10 @@ pub enum MovesRefusal {
 /// Why the words of a goal can stand in no trace.
 #[derive(Clone, Copy, Debug, PartialEq, Eq, Error)]
 pub enum GoalRefusal {
-    /// The first word is no node of the setup.
+    /// The first word is no node of the setup, and the words are none of a verdict where one may stand.
     #[error("goal: UnknownNode")]
     UnknownNode,
-    /// The second word is none that a line of a trace has there.
+    /// The second word is none that a line of a trace has there, or a verdict where `reuse` is the first.
     #[error("goal: UnknownWord")]
     UnknownWord,
 }

@@ -4,7 +4,7 @@ ghost use Rattle.someip_world_schedule.specs.Steps.{words_in};
 ghost use Rattle.someip_explore.specs.GoalViews.{goal_of, words_of};
 ghost use Rattle.someipctl_explore.specs.GoalTexts.{RefusesGoal, begins_verdict, fault_of_goal, first_fault};
 ghost use Rattle.someipctl_explore.specs.GoalTexts.{goal_fault, goal_in, is_told, is_verdict, texts_at};
-ghost use Rattle.someipctl_explore.specs.GoalTexts.{words_fault};
+ghost use Rattle.someipctl_explore.specs.GoalTexts.{unknown_fault, words_fault};
 
 use crate::error::GoalRefusal;
 use someip_explore::Goal;
@@ -97,6 +97,23 @@ fn is_told(word: &str) -> bool
     )
 }
 
+/// Whether a verdict tells so.
+fn is_verdict(word: &str) -> bool
+    ensures { result ≡ is_verdict word.now }
+{
+    word == "clean" || word == "broken"
+}
+
+/// What is wrong with words of which the first is no node.
+fn unknown_fault(name: &str, others: &[String]) -> GoalRefusal
+    ensures { result ≡ unknown_fault name.now (map string_bytes others.now) }
+{
+    match others {
+        [word, ..] if name == "reuse" && !is_verdict(word.as_str()) => GoalRefusal::UnknownWord,
+        _ => GoalRefusal::UnknownNode,
+    }
+}
+
 /// Why no line of a trace over these nodes begins with some words.
 fn words_fault(nodes: &[SetupNode], words: &[String]) -> Option<GoalRefusal>
     ensures { result ≡ words_fault nodes.now (map string_bytes words.now) }
@@ -105,19 +122,12 @@ fn words_fault(nodes: &[SetupNode], words: &[String]) -> Option<GoalRefusal>
         return None;
     };
     if place_of(nodes, name.as_str()).is_none() {
-        return Some(GoalRefusal::UnknownNode);
+        return Some(unknown_fault(name.as_str(), others));
     }
     match others {
         [word, ..] if !is_told(word.as_str()) => Some(GoalRefusal::UnknownWord),
         _ => None,
     }
-}
-
-/// Whether a verdict tells so.
-fn is_verdict(word: &str) -> bool
-    ensures { result ≡ is_verdict word.now }
-{
-    word == "clean" || word == "broken"
 }
 
 /// Whether the line of a verdict may begin with some words.
