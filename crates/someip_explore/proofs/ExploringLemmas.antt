@@ -1,13 +1,13 @@
 -- What a schedule may go on by, and what it comes to, by what a run of it gives.
-use Rattle.std.proofs.Common.{◌≡◌, ℕ, Bool, List, length, flat_map, if◌then◌else◌, Result, Ok, Err, IfOk, sym, ap, subst, ◌∙◌}
+use Rattle.std.proofs.Common.{◌≡◌, ℕ, Bool, List, length, flat_map, if◌then◌else◌, Result, Ok, Err, sym, ap, subst, ◌∙◌}
 use Rattle.std.specs.Global as global
 use Rattle.someip_world_schedule.specs.declared.step.Step.{Step}
 use Rattle.someip_world_setup.specs.declared.setup_node.SetupNode.{SetupNode}
-use Rattle.someip_world_rules.specs.Runs.{IsRun}
+use Rattle.someip_world.specs.Running.{IsTold}
 use Rattle.someip_world_rules.specs.declared.error.RunError.{RunError}
 use Rattle.someip_world_rules.specs.declared.error.RunError.TheVariants.{BadStep, OutOfMemory}
 use Rattle.someip_world_rules.specs.declared.line.Line.{Line}
-use Rattle.someip_world_rules.specs.declared.trace.Trace.{Trace}
+use Rattle.someip_world_rules.specs.declared.reuse.Reuse.{Reuse}
 use Rattle.someip_world_rules.specs.exchanges.CleanReuse.{IsVerdictOn}
 use Rattle.someip_explore.specs.declared.moves.Move.{Move}
 use Rattle.someip_explore.specs.declared.search.Explored.{Explored}
@@ -23,32 +23,31 @@ use Rattle.someip_explore.specs.Watching.{HearsOf, judged_in}
 use Rattle.someip_explore.proofs.TraceLemmas.{comes_to_trace}
 use Rattle.someip_explore.proofs.OneVerdict.{one_verdict}
 
--- what a run gives is the trace, and the verdict on it
-pub traced_so : (nodes : List SetupNode) (ss : List Step) (ran : Result Trace RunError)
-    → ((lines : List Line) → IsVerdictOn nodes ss lines (verdict_of nodes ss lines)) → IsRun nodes ss ran → IfOk ran (λ trace. IsVerdictOn nodes ss trace.lines.items trace.verdict)
-    → IsTraced nodes ss ran
-traced_so nodes ss (Ok trace) told run on =
-    let is = sym (comes_to_trace nodes ss (Ok trace.lines.items) run) in
-    (is, one_verdict nodes ss trace.lines.items is trace.verdict (verdict_of nodes ss trace.lines.items) on (told trace.lines.items))
-traced_so nodes ss (Err (BadStep index fault)) told run on = sym (comes_to_trace nodes ss (Err (BadStep index fault)) run)
-traced_so nodes ss (Err OutOfMemory) told run on = record {}
+-- what a run gives is the trace
+pub traced_so : (nodes : List SetupNode) (ss : List Step) (ran : Result (global.Vec Line) RunError) → IsTold nodes ss ran → IsTraced nodes ss ran
+traced_so nodes ss (Ok lines) told = sym (comes_to_trace nodes ss (Ok lines.items) told)
+traced_so nodes ss (Err (BadStep index fault)) told = sym (comes_to_trace nodes ss (Err (BadStep index fault)) told)
+traced_so nodes ss (Err OutOfMemory) told = record {}
+
+-- a verdict on it is that which is told
+pub verdict_so : (nodes : List SetupNode) (ss : List Step) (lines : List Line) (verdict : Reuse) → trace_of nodes ss ≡ Ok lines → IsVerdictOn nodes ss lines verdict
+    → IsVerdictOn nodes ss lines (verdict_of nodes ss lines) → verdict ≡ verdict_of nodes ss lines
+verdict_so nodes ss lines verdict is on told = one_verdict nodes ss lines is verdict (verdict_of nodes ss lines) on told
 
 -- ---- how a schedule may go on
 
-pub next_so : (nodes : List SetupNode) (moves : List Move) (ss : List Step) (trace : Trace) → IsTraced nodes ss (Ok trace)
-    → flat_map (stands_for nodes ss trace.lines.items) moves ≡ next_steps nodes moves ss
-next_so nodes moves ss trace traced = sym (ap (next_by nodes moves ss) traced.0)
+pub next_so : (nodes : List SetupNode) (moves : List Move) (ss : List Step) (lines : List Line) → trace_of nodes ss ≡ Ok lines
+    → flat_map (stands_for nodes ss lines) moves ≡ next_steps nodes moves ss
+next_so nodes moves ss lines is = sym (ap (next_by nodes moves ss) is)
 
 pub none_next : (nodes : List SetupNode) (moves : List Move) (ss : List Step) (error : RunError) → trace_of nodes ss ≡ Err error → next_by nodes moves ss (Err error) ≡ next_steps nodes moves ss
 none_next nodes moves ss error is = sym (ap (next_by nodes moves ss) is)
 
 -- ---- what it comes to
 
-pub judged_so : (nodes : List SetupNode) (goal : Goal) (done : ℕ) (ss : List Step) (trace : Trace) (does : Bool) → IsTraced nodes ss (Ok trace)
-    → does ≡ run_reaches nodes goal done trace.lines.items trace.verdict → (if does then Reached else Missed) ≡ judgement_of nodes goal done ss
-judged_so nodes goal done ss trace does traced so =
-    ap (λ b. if b then Reached else Missed) so ∙ ap (λ verdict. if run_reaches nodes goal done trace.lines.items verdict then Reached else Missed) traced.1
-    ∙ sym (ap (judged_by nodes goal done ss) traced.0)
+pub judged_so : (nodes : List SetupNode) (goal : Goal) (done : ℕ) (ss : List Step) (lines : List Line) (does : Bool) → trace_of nodes ss ≡ Ok lines
+    → does ≡ run_reaches nodes goal done lines (verdict_of nodes ss lines) → (if does then Reached else Missed) ≡ judgement_of nodes goal done ss
+judged_so nodes goal done ss lines does is so = ap (λ b. if b then Reached else Missed) so ∙ sym (ap (judged_by nodes goal done ss) is)
 
 pub judged_bad : (nodes : List SetupNode) (goal : Goal) (done : ℕ) (ss : List Step) (error : RunError) → trace_of nodes ss ≡ Err error → Bad ≡ judgement_of nodes goal done ss
 judged_bad nodes goal done ss error is = sym (ap (judged_by nodes goal done ss) is)

@@ -6,7 +6,6 @@ use Rattle.someip_world_setup.specs.declared.setup_node.SetupNode.{SetupNode}
 use Rattle.someip_world_rules.specs.declared.error.RunError.{RunError}
 use Rattle.someip_world_rules.specs.declared.error.RunError.TheVariants.{BadStep, OutOfMemory}
 use Rattle.someip_world_rules.specs.declared.line.Line.{Line}
-use Rattle.someip_world_rules.specs.declared.trace.Trace.{Trace}
 use Rattle.someip_explore.specs.declared.exploring.Exploration.{Exploration}
 use Rattle.someip_explore.specs.declared.exploring.Exploration.TheVariants as exploration
 use Rattle.someip_explore.specs.declared.moves.Move.{Move}
@@ -21,10 +20,9 @@ use Rattle.someip_explore.specs.Search.{up_to}
 use Rattle.someip_explore.specs.Searching.{GoesOver, IsFirst, NoneReaches, count_good}
 use Rattle.someip_explore.specs.Traces.{trace_of, verdict_of}
 
--- the trace of a schedule is told with the verdict on it, or its first bad step, or memory ran out
-abbrev pub IsTraced : List SetupNode → List Step → Result Trace RunError → Type 0
-IsTraced nodes steps (Ok trace) =
-    (trace_of nodes steps ≡ Ok trace.lines.items) × (trace.verdict ≡ verdict_of nodes steps trace.lines.items)
+-- the trace of a schedule is told, or its first bad step, or memory ran out
+abbrev pub IsTraced : List SetupNode → List Step → Result (Vec Line) RunError → Type 0
+IsTraced nodes steps (Ok lines) = trace_of nodes steps ≡ Ok lines.items
 IsTraced nodes steps (Err (BadStep index fault)) = trace_of nodes steps ≡ Err (BadStep index fault)
 IsTraced nodes steps (Err OutOfMemory) = Unit {0}
 

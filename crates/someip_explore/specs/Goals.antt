@@ -32,6 +32,11 @@ abbrev pub verdict_words : Reuse → List (List ℕ)
 verdict_words Clean = codes "reuse" ∷ codes "clean" ∷ []
 verdict_words (Broken at) = codes "reuse" ∷ codes "broken" ∷ codes "at" ∷ decimal at ∷ []
 
+-- the line of a verdict may have these words
+abbrev pub asks_for_verdict : List (List ℕ) → Bool
+asks_for_verdict [] = true
+asks_for_verdict (word ∷ words) = bytes_eq (codes "reuse") word
+
 -- a line has some words where its first words are these
 abbrev pub begins_with : List (List ℕ) → List (List ℕ) → Bool
 begins_with [] line = true

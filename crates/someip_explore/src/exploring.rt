@@ -58,9 +58,9 @@ impl<'e, R: Reassembly> Game<Step> for Explorer<'e, R> {
     #[tactic(auto, using(crate::proofs::ExploringLemmas::next_so, crate::proofs::ExploringLemmas::none_next))]
     fn next(&self, steps: &[Step]) -> Result<Vec<Step>, AllocError> {
         match run_traced::<R>(self.alloc, self.setup, steps) {
-            Ok(trace) => {
+            Ok(lines) => {
                 let nodes = self.setup.nodes();
-                steps_after(self.alloc, nodes, steps, trace.lines.as_slice(), self.moves)
+                steps_after(self.alloc, nodes, steps, lines.as_slice(), self.moves)
             }
             Err(RunError::BadStep(..)) => Ok(Vec::new(self.alloc)),
             Err(RunError::OutOfMemory) => Err(AllocError),
@@ -69,13 +69,19 @@ impl<'e, R: Reassembly> Game<Step> for Explorer<'e, R> {
 
     #[tactic(auto, using(crate::proofs::ExploringLemmas::judged_so, crate::proofs::ExploringLemmas::judged_bad))]
     fn judge(&self, steps: &[Step]) -> Result<Judgement, AllocError> {
-        let trace = match run_traced::<R>(self.alloc, self.setup, steps) {
-            Ok(trace) => trace,
+        let lines = match run_traced::<R>(self.alloc, self.setup, steps) {
+            Ok(lines) => lines,
             Err(RunError::BadStep(..)) => return Ok(Judgement::Bad),
             Err(RunError::OutOfMemory) => return Err(AllocError),
         };
-        let nodes = self.setup.nodes();
-        if run_reaches(self.alloc, nodes, self.goal, self.done, &trace)? {
+        if run_reaches(
+            self.alloc,
+            self.setup,
+            steps,
+            self.goal,
+            self.done,
+            lines.as_slice(),
+        )? {
             Ok(Judgement::Reached)
         } else {
             Ok(Judgement::Missed)

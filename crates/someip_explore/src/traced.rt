@@ -1,19 +1,35 @@
-//! A run whose trace and verdict are functions of setup and steps.
+//! Traces and verdicts that are functions of setup and steps.
+ghost use Rattle.std.specs.Prelude.{◌≡◌, IfOk, Ok};
 ghost use Rattle.someip_explore.specs.Exploring.{IsTraced};
+ghost use Rattle.someip_explore.specs.Traces.{trace_of, verdict_of};
 
 use crate::laws::verdicts_are_told;
 use someip_tp::Reassembly;
-use someip_world::{RunError, Setup, Step, Trace, run};
-use std::alloc::Global;
+use someip_world::{Line, Reuse, RunError, Setup, Step, run_lines};
+use someip_world_verdict::verdict_on;
+use std::alloc::{AllocError, Global};
 
-/// Runs a schedule: its trace, and the verdict on it.
+/// Runs a schedule: the lines of its trace.
 pub(crate) fn run_traced<R: Reassembly>(
     alloc: Global,
     setup: &Setup,
     steps: &[Step],
-) -> Result<Trace, RunError>
+) -> Result<Vec<Line>, RunError>
     ensures { IsTraced setup.now.nodes steps.now result }
 {
+    run_lines::<R>(alloc, setup, steps)
+}
+
+/// The verdict on a schedule whose trace has these lines.
+pub(crate) fn verdict_traced(
+    alloc: Global,
+    setup: &Setup,
+    steps: &[Step],
+    lines: &[Line],
+) -> Result<Reuse, AllocError>
+    requires { trace_of setup.now.nodes steps.now ≡ Ok lines.now }
+    ensures { IfOk result (λ verdict. verdict ≡ verdict_of setup.now.nodes steps.now lines.now) }
+{
     verdicts_are_told(setup, steps);
-    run::<R>(alloc, setup, steps)
+    verdict_on(alloc, setup, steps, lines)
 }

@@ -4,7 +4,7 @@
 //! - [`Setup::read`]: the setup of a network, read from TOML;
 //! - [`read_schedule`]: the steps of a schedule; [`read_numbered_schedule`]: the same with their lines;
 //! - [`run`]: the trace of a schedule over the nodes of a setup, as [`Line`]s, and the verdict on it,
-//!   whether it reused the keys of its exchanges cleanly: [`Reuse`].
+//!   whether it reused the keys of its exchanges cleanly: [`Reuse`]; [`run_lines`]: the lines alone.
 //!
 //! What a run is, the laws of every run and the types of a trace are those of `someip_world_rules`.
 //!
@@ -29,4 +29,4 @@ pub use someip_world_schedule::{
     read_numbered_schedule, read_schedule,
 };
 pub use someip_world_setup::{Setup, SetupError, SetupNode};
-pub use world_run::run;
+pub use world_run::{run, run_lines};

@@ -82,6 +82,17 @@ fn run_nodes<R: Reassembly>(
     }
 }
 
+/// Runs a schedule as [`run`] does, and gives the lines of its trace alone, without the verdict.
+pub fn run_lines<R: Reassembly>(
+    alloc: Global,
+    setup: &Setup,
+    steps: &[Step],
+) -> Result<Vec<Line>, RunError>
+    ensures { IsTold setup.now.nodes steps.now result }
+{
+    run_nodes::<R>(alloc, setup.nodes(), steps)
+}
+
 /// Runs a schedule over the nodes of a setup: each node is started with its delay, and the steps happen
 /// one after the other. Liars run no node: they send what steps say, under their own addresses. The trace
 /// tells all that nodes and liars gave, and whether the nodes reused the keys of their exchanges cleanly.

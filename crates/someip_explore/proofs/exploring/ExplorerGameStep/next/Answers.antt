@@ -13,5 +13,5 @@ returns-in-Ok g c =
     (λ found is.
     is ∙ ap (λ own. flat_map (stands_for own steps c.as_slice.result.now) moves) c.nodes-nodes.ensures.nodes
     ∙ ap (λ lines. flat_map (stands_for nodes steps lines) moves) c.as_slice.ensures.value
-    ∙ next_so nodes moves steps c.in-Ok.trace c.in-Ok.ensures)
+    ∙ next_so nodes moves steps c.in-Ok.lines.items c.in-Ok.ensures)
     c.steps_after.ensures
