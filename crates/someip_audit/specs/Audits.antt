@@ -6,6 +6,7 @@ use Rattle.someip_wire.specs.Reading.{items_of}
 use Rattle.someip_tables.specs.Lastings.{expired}
 use Rattle.someip_tables.specs.declared.hashed.origin.Origin.{Origin}
 use Rattle.audit_sd.specs.declared.subscriptions.key.SubscriptionKey.{SubscriptionKey}
+use Rattle.audit_rules.specs.declared.Rule.{Rule}
 use Rattle.audit_sd.specs.receivers.ReceiverTables.{without_expired}
 use Rattle.audit_traffic.specs.sequence.Sequences.{Sequence, after_change}
 use Rattle.someip_audit.specs.declared.fell_due.FellDue.{FellDue}
@@ -21,9 +22,9 @@ use Rattle.someip_audit.specs.WatchedEndpoints.{is_looked_at}
 abbrev pub AuditState : Type 0
 AuditState = Held
 
--- an audit that saw nothing, of a recording that begins at this moment; the ports that are looked at, and whether endpoints are learnt
-abbrev pub audit_begun : AuditRules → List ℕ → Bool → ℕ → AuditState
-audit_begun rules ports learns now = empty_held rules ports learns now
+-- an audit that saw nothing, of a recording that begins at this moment; the rules of a bench; the ports that are looked at, and whether endpoints are learnt
+abbrev pub audit_begun : AuditRules → List Rule → List ℕ → Bool → ℕ → AuditState
+audit_begun rules bench ports learns now = empty_held rules bench ports learns now
 
 -- ---- what expires
 

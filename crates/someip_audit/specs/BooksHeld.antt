@@ -2,6 +2,7 @@
 use Rattle.std.specs.Prelude.{◌-◌, ◌+◌, ◌^◌, ℕ, min, false, Bool, List, refl}
 use Rattle.std.specs.Coded.{Coded, code_by, coded×, coded_bool}
 use Rattle.std.specs.FinMap as finite
+use Rattle.audit_rules.specs.declared.Rule.{Rule}
 use Rattle.audit_traffic.specs.calls.CallBooks as calls
 use Rattle.audit_traffic.specs.calls.CallCodes as codes
 use Rattle.audit_traffic.specs.segments.SegmentBooks as segments
@@ -13,10 +14,12 @@ use Rattle.audit_sd.specs.receivers.ReceiverTables.{Receivers, coded_receivers}
 use Rattle.audit_traffic.specs.sequence.Sequences.{Sequence, coded_sequence, new_sequence}
 use Rattle.audit_traffic.specs.ways.WayTables.{Ways, coded_ways}
 use Rattle.someip_audit.specs.declared.rules.AuditRules.{AuditRules}
+use Rattle.someip_audit.specs.AnswerTimes.{Times, coded_times}
 use Rattle.someip_audit.specs.WatchedEndpoints.{Watch, coded_watch, watch_begun}
 
--- the value of each book, which datagrams are looked at, and whether an Offer was seen
+-- how long answers may take, the value of each book, which datagrams are looked at, and whether an Offer was seen
 pub record Held : Type 0 where
+  pub times : Times
   pub calls : calls.Book
   pub segments : segments.Book
   pub offers : OfferTable
@@ -33,11 +36,12 @@ pub record Held : Type 0 where
 abbrev pub moment_after : ℕ → ℕ → ℕ
 moment_after now millis = min (now + millis) (2 ^ 63 - 1)
 
--- books that saw nothing, of a recording that begins at this moment; the ports that are looked at, and whether endpoints are
+-- books that saw nothing, of a recording that begins at this moment; the rules of a bench; the ports that are looked at, and whether endpoints are
 -- learnt
-abbrev pub empty_held : AuditRules → List ℕ → Bool → ℕ → Held
-empty_held rules ports learns now = record {
-  calls = calls.new_book (record { limit = rules.limit; answer_ms = rules.answer_ms; begins = now });
+abbrev pub empty_held : AuditRules → List Rule → List ℕ → Bool → ℕ → Held
+empty_held rules bench ports learns now = record {
+  times = record { rules = bench; answer_ms = rules.answer_ms };
+  calls = calls.new_book (record { limit = rules.limit; begins = now });
   segments = segments.empty_book (record { slots = rules.segments.slots; limit = rules.segments.limit; timeout = rules.segments.timeout_ms }) 0;
   offers = record { limit = rules.limit; standing = finite.empty; told_full = false };
   servers = no_servers rules.limit;
@@ -53,8 +57,8 @@ empty_held rules ports learns now = record {
 -- a code, by which a proof tells values apart
 abbrev pub coded_held : Coded Held
 coded_held =
-    code_by ((((calls.Book × segments.Book) × (Sequence × Watch)) × (((OfferTable × ServerTable) × SubscribeTable) × (Sessions × Receivers))) × (Ways × Bool))
-    (coded× (coded× (coded× (coded× codes.coded_book segments.coded_book) (coded× coded_sequence coded_watch)) (coded× (coded× (coded× coded_offers coded_servers) coded_subscribes) (coded× coded_sessions coded_receivers))) (coded× coded_ways coded_bool))
-    (λ h. ((((h.calls, h.segments), (h.events, h.watched)), (((h.offers, h.servers), h.subscriptions), (h.sessions, h.receivers))), (h.ways, h.is_offered)))
-    (λ c. record { calls = c.0.0.0.0; segments = c.0.0.0.1; events = c.0.0.1.0; watched = c.0.0.1.1; offers = c.0.1.0.0.0; servers = c.0.1.0.0.1; subscriptions = c.0.1.0.1; sessions = c.0.1.1.0; receivers = c.0.1.1.1; ways = c.1.0; is_offered = c.1.1 })
+    code_by ((((calls.Book × segments.Book) × (Sequence × Watch)) × (((OfferTable × ServerTable) × SubscribeTable) × (Sessions × Receivers))) × ((Ways × Bool) × Times))
+    (coded× (coded× (coded× (coded× codes.coded_book segments.coded_book) (coded× coded_sequence coded_watch)) (coded× (coded× (coded× coded_offers coded_servers) coded_subscribes) (coded× coded_sessions coded_receivers))) (coded× (coded× coded_ways coded_bool) coded_times))
+    (λ h. ((((h.calls, h.segments), (h.events, h.watched)), (((h.offers, h.servers), h.subscriptions), (h.sessions, h.receivers))), ((h.ways, h.is_offered), h.times)))
+    (λ c. record { times = c.1.1; calls = c.0.0.0.0; segments = c.0.0.0.1; events = c.0.0.1.0; watched = c.0.0.1.1; offers = c.0.1.0.0.0; servers = c.0.1.0.0.1; subscriptions = c.0.1.0.1; sessions = c.0.1.1.0; receivers = c.0.1.1.1; ways = c.1.0.0; is_offered = c.1.0.1 })
     (λ _. refl)

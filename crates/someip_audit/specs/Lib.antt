@@ -1,4 +1,5 @@
 pub mod WatchedEndpoints
+pub mod AnswerTimes
 pub mod BooksHeld
 pub mod FellDues
 pub mod SdEntries

@@ -27,6 +27,7 @@ use Rattle.audit_traffic.specs.declared.ways.way.Way.{Way}
 use Rattle.audit_traffic.specs.ways.WayTables as ways
 use Rattle.someip_audit.specs.declared.finding.Finding.{Finding}
 use Rattle.someip_audit.specs.declared.finding.Finding.TheVariants as findings
+use Rattle.someip_audit.specs.AnswerTimes.{answer_ms_of}
 use Rattle.someip_audit.specs.BooksHeld.{Held}
 use Rattle.someip_audit.specs.SdEntries.{server_key}
 use Rattle.someip_audit.specs.SdShown.{Work, with_told}
@@ -34,15 +35,15 @@ use Rattle.someip_audit.specs.WatchedEndpoints.{is_at_discovery}
 
 -- ---- a whole message
 
--- a message with this header and payload, as it was seen
-abbrev pub tapped_in : ℕ → Origin → Header → List ℕ → Tapped
-tapped_in now origin header payload = record { now = now; numbers = origin.numbers; from = origin.from; to = origin.to; header = header; payload = payload }
+-- a message with this header and payload, as it was seen, and how long an answer to it or to its call may take
+abbrev pub tapped_in : ℕ → ℕ → Origin → Header → List ℕ → Tapped
+tapped_in now answer_ms origin header payload = record { now = now; answer_ms = answer_ms; numbers = origin.numbers; from = origin.from; to = origin.to; header = header; payload = payload }
 
 -- what it shows of calls
 abbrev pub call_shown : ℕ → Origin → Header → List ℕ → Work → Work
 call_shown now origin header payload work = record {
-  held = record work.held { calls = calls.book_after (tapped_in now origin header payload) work.held.calls };
-  told = with_told (option_map (findings.Call header) (calls.told (tapped_in now origin header payload) work.held.calls)) work.told;
+  held = record work.held { calls = calls.book_after (tapped_in now (answer_ms_of work.held.times header.service header.method) origin header payload) work.held.calls };
+  told = with_told (option_map (findings.Call header) (calls.told (tapped_in now (answer_ms_of work.held.times header.service header.method) origin header payload) work.held.calls)) work.told;
 }
 
 -- a message is an answer with another return code than E_OK

@@ -14,6 +14,7 @@ use crate::fell_due::FellDue;
 use crate::finding::Finding;
 use crate::rules::AuditRules;
 use crate::watched::WatchRules;
+use audit_rules::Rules;
 use audit_traffic::ways::OneWay;
 use someip_reassembly::Reassembly;
 use someip_tables::Moment;
@@ -44,18 +45,20 @@ impl<S: Reassembly> Model for Audit<S> {
 
 impl<S: Reassembly> Audit<S> {
     /// An audit that saw nothing, of a recording that begins now. Datagrams from and to port 30490 are
-    /// looked at, and beside it those that are to be watched.
+    /// looked at, and beside it those that are to be watched. By the rules of a bench an answer to a REQUEST may
+    /// take as long as the first rule says that fits it.
     pub fn begin(
         alloc: Global,
         rules: &AuditRules,
+        bench: &Rules,
         watch: &WatchRules<'_>,
         now: Moment,
     ) -> Result<Audit<S>, AllocError>
         ensures { IfOk result (λ audit. audit
-            ≡ audit_begun rules.now watch.now.ports.now watch.now.learns now) }
+            ≡ audit_begun rules.now bench.now watch.now.ports.now watch.now.learns now) }
     {
         Ok(Audit {
-            books: Books::make(alloc, rules, watch, now)?,
+            books: Books::make(alloc, rules, bench, watch, now)?,
             bytes: Vec::new(alloc),
         })
     }

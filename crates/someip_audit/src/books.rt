@@ -8,7 +8,9 @@ ghost use Rattle.someip_audit.specs.declared.fell_due.FellDue.{FellDue};
 use crate::fell_due::FellDue;
 use crate::rules::AuditRules;
 use crate::soonest::{earlier, is_at, soonest};
+use crate::times::AnswerTimes;
 use crate::watched::{WatchRules, Watched};
+use audit_rules::Rules;
 use audit_sd::offers::OfferBook;
 use audit_sd::receivers::ReceiverBook;
 use audit_sd::servers::ServerBook;
@@ -27,6 +29,7 @@ use std::marker::Model;
 /// seen.
 #[derive(Drop)]
 pub(crate) struct Books<S: Reassembly> {
+    pub(crate) times: AnswerTimes,
     pub(crate) calls: CallBook,
     pub(crate) segments: SegmentBook<S>,
     pub(crate) offers: OfferBook,
@@ -49,6 +52,7 @@ impl<S: Reassembly> Model for Books<S> {
     ghost coded = { coded_held };
 
     ghost view = { λ b. record {
+      times = b.times;
       calls = b.calls;
       segments = b.segments;
       offers = b.offers;
@@ -64,21 +68,22 @@ impl<S: Reassembly> Model for Books<S> {
 }
 
 impl<S: Reassembly> Books<S> {
-    /// Books that saw nothing, of a recording that begins now; which datagrams are looked at.
+    /// Books that saw nothing, of a recording that begins now; the rules of a bench; which datagrams are looked at.
     pub(crate) fn make(
         alloc: Global,
         rules: &AuditRules,
+        bench: &Rules,
         watch: &WatchRules<'_>,
         now: Moment,
     ) -> Result<Books<S>, AllocError>
         ensures { IfOk result (λ books. books
-            ≡ empty_held rules.now watch.now.ports.now watch.now.learns now) }
+            ≡ empty_held rules.now bench.now watch.now.ports.now watch.now.learns now) }
     {
+        let times = AnswerTimes::of(alloc, bench, rules.answer_ms)?;
         let watched = Watched::new(alloc, watch, rules.limit)?;
         let segments = SegmentBook::make(alloc, rules.segments)?;
         let calls = CallRules {
             limit: rules.limit,
-            answer_ms: rules.answer_ms,
             begins: now,
         };
         let sequences = SequenceRules {
@@ -87,6 +92,7 @@ impl<S: Reassembly> Books<S> {
             counting: rules.counting,
         };
         Ok(Books {
+            times,
             calls: CallBook::new(alloc, calls),
             segments,
             offers: OfferBook::new(alloc, rules.limit),

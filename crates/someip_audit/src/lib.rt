@@ -24,6 +24,7 @@ mod learner;
 mod messages;
 mod rules;
 mod soonest;
+mod times;
 mod watched;
 
 pub use audit::Audit;

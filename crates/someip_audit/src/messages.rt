@@ -221,10 +221,16 @@ impl<S: Reassembly> Books<S> {
             (working self.old findings.old.items)) }
         ensures err { OnErr result (findings.new.items ≡ findings.old.items) }
     {
-        match self
-            .calls
-            .saw(now, origin.numbers, origin.from, origin.to, message)?
-        {
+        let header = &message.header;
+        let answer_ms = self.times.answer_ms(header.service, header.method);
+        match self.calls.saw(
+            now,
+            answer_ms,
+            origin.numbers,
+            origin.from,
+            origin.to,
+            message,
+        )? {
             Some(shown) => tell(findings, Finding::Call(message.header, shown)),
             None => Ok(()),
         }

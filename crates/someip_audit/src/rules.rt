@@ -7,7 +7,8 @@ use audit_traffic::sequence::Counting;
 pub struct AuditRules {
     /// How many keys a book holds at most, and how many endpoints are learnt.
     pub limit: usize,
-    /// How many milliseconds an answer may take: that to a REQUEST, and that to a Subscribe.
+    /// How many milliseconds an answer may take: that to a REQUEST of which the rules of the bench say nothing,
+    /// and that to a Subscribe.
     pub answer_ms: u32,
     /// How many milliseconds after a message one may come that it overtook: from 0 to 60000.
     pub overtake_ms: u32,

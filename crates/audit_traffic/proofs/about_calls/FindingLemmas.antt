@@ -43,18 +43,18 @@ request_is kinds.TpNotification is = cc
 request_is kinds.TpResponse is = cc
 request_is kinds.TpError is = cc
 
-known_by_answer_type : (kind : MessageType) (rules : CallRules) (message : Tapped) (v : Option Known) → is_answer_type kind ≡ true
-    → known_by kind rules message v ≡ known_by_answer (message.now + rules.answer_ms) v
-known_by_answer_type kinds.Response rules message v is = refl
-known_by_answer_type kinds.Error rules message v is = refl
-known_by_answer_type kinds.Request rules message v is = cc
-known_by_answer_type kinds.RequestNoReturn rules message v is = cc
-known_by_answer_type kinds.Notification rules message v is = cc
-known_by_answer_type kinds.TpRequest rules message v is = cc
-known_by_answer_type kinds.TpRequestNoReturn rules message v is = cc
-known_by_answer_type kinds.TpNotification rules message v is = cc
-known_by_answer_type kinds.TpResponse rules message v is = cc
-known_by_answer_type kinds.TpError rules message v is = cc
+known_by_answer_type : (kind : MessageType) (message : Tapped) (v : Option Known) → is_answer_type kind ≡ true
+    → known_by kind message v ≡ known_by_answer (message.now + message.answer_ms) v
+known_by_answer_type kinds.Response message v is = refl
+known_by_answer_type kinds.Error message v is = refl
+known_by_answer_type kinds.Request message v is = cc
+known_by_answer_type kinds.RequestNoReturn message v is = cc
+known_by_answer_type kinds.Notification message v is = cc
+known_by_answer_type kinds.TpRequest message v is = cc
+known_by_answer_type kinds.TpRequestNoReturn message v is = cc
+known_by_answer_type kinds.TpNotification message v is = cc
+known_by_answer_type kinds.TpResponse message v is = cc
+known_by_answer_type kinds.TpError message v is = cc
 
 -- ---- what is known of one call
 
@@ -168,46 +168,46 @@ by_answer until answered (Some (Answered earlier)) is = inl is
 
 -- ---- what is known after messages
 
-module _ (rules : CallRules) (call : AuditedCall) where
+module _ (call : AuditedCall) where
   -- what a message about the call makes of it
   after_request : (message : Tapped) (past : List Tapped) → is_about call message ≡ true → message.header.kind ≡ kinds.Request
-      → known_of rules call (message ∷ past) ≡ Some (known_by_request (opened rules message) (known_at message.now (known_of rules call past)))
+      → known_of call (message ∷ past) ≡ Some (known_by_request (opened message) (known_at message.now (known_of call past)))
   after_request message past about is =
-      ap (λ b. cond b (known_by message.header.kind rules message (known_at message.now (known_of rules call past))) (known_of rules call past)) about
-      ∙ ap (λ kind. known_by kind rules message (known_at message.now (known_of rules call past))) is
+      ap (λ b. cond b (known_by message.header.kind message (known_at message.now (known_of call past))) (known_of call past)) about
+      ∙ ap (λ kind. known_by kind message (known_at message.now (known_of call past))) is
 
   after_answer : (message : Tapped) (past : List Tapped) → is_about call message ≡ true → is_answer_type message.header.kind ≡ true
-      → known_of rules call (message ∷ past) ≡ known_by_answer (message.now + rules.answer_ms) (known_at message.now (known_of rules call past))
+      → known_of call (message ∷ past) ≡ known_by_answer (message.now + message.answer_ms) (known_at message.now (known_of call past))
   after_answer message past about is =
-      ap (λ b. cond b (known_by message.header.kind rules message (known_at message.now (known_of rules call past))) (known_of rules call past)) about
-      ∙ known_by_answer_type message.header.kind rules message (known_at message.now (known_of rules call past)) is
+      ap (λ b. cond b (known_by message.header.kind message (known_at message.now (known_of call past))) (known_of call past)) about
+      ∙ known_by_answer_type message.header.kind message (known_at message.now (known_of call past)) is
 
-  after_other : (message : Tapped) (past : List Tapped) → is_about call message ≡ false → known_of rules call (message ∷ past) ≡ known_of rules call past
+  after_other : (message : Tapped) (past : List Tapped) → is_about call message ≡ false → known_of call (message ∷ past) ≡ known_of call past
   after_other message past other =
-      ap (λ b. cond b (known_by message.header.kind rules message (known_at message.now (known_of rules call past))) (known_of rules call past)) other
+      ap (λ b. cond b (known_by message.header.kind message (known_at message.now (known_of call past))) (known_of call past)) other
 
   -- the messages never say that a call was told
-  never_overdue_step : (message : Tapped) (past : List Tapped) (since : ℕ) → (known_of rules call past ≡ Some (Overdue since) → ⊥)
-      → known_of rules call (message ∷ past) ≡ Some (Overdue since) → ⊥
+  never_overdue_step : (message : Tapped) (past : List Tapped) (since : ℕ) → (known_of call past ≡ Some (Overdue since) → ⊥)
+      → known_of call (message ∷ past) ≡ Some (Overdue since) → ⊥
   never_overdue_step message past since rest is = cases (is_about call message) refl
     where
       cases : (b : Bool) → is_about call message ≡ b → ⊥
       cases true about =
           about_by message.header.kind call message about
-          (λ asks. let opens = request_opens (opened rules message) (known_at message.now (known_of rules call past)) in
+          (λ asks. let opens = request_opens (opened message) (known_at message.now (known_of call past)) in
           let e : Some (Open opens.0) ≡ Some (Overdue since) = sym (after_request message past about asks ∙ ap Some opens.1) ∙ is in
           cc)
           (λ answers. not_overdue_by_answer _ _ since (sym (after_answer message past about answers) ∙ is))
       cases false other = rest (sym (after_other message past other) ∙ is)
 
-  pub never_overdue : (past : List Tapped) (since : ℕ) → known_of rules call past ≡ Some (Overdue since) → ⊥
+  pub never_overdue : (past : List Tapped) (since : ℕ) → known_of call past ≡ Some (Overdue since) → ⊥
   never_overdue [] since is = cc
   never_overdue (message ∷ past) since is = never_overdue_step message past since (never_overdue past since) is
 
   -- ---- a call stands open by its REQUEST
 
-  one_more_open : (open_call : OpenCall) (message : Tapped) (past : List Tapped) → (is_about call message ≡ true → LeavesOpen rules open_call message) → IsOpenBy rules call open_call past
-      → IsOpenBy rules call open_call (message ∷ past)
+  one_more_open : (open_call : OpenCall) (message : Tapped) (past : List Tapped) → (is_about call message ≡ true → LeavesOpen open_call message) → IsOpenBy call open_call past
+      → IsOpenBy call open_call (message ∷ past)
   one_more_open open_call message past leaves r = record {
     later = message ∷ r.later;
     request = r.request;
@@ -220,13 +220,13 @@ module _ (rules : CallRules) (call : AuditedCall) where
     since = (leaves, r.since);
   }
 
-  open_step : (message : Tapped) (past : List Tapped) (open_call : OpenCall) → (known_of rules call past ≡ Some (Open open_call) → IsOpenBy rules call open_call past)
-      → known_of rules call (message ∷ past) ≡ Some (Open open_call) → IsOpenBy rules call open_call (message ∷ past)
+  open_step : (message : Tapped) (past : List Tapped) (open_call : OpenCall) → (known_of call past ≡ Some (Open open_call) → IsOpenBy call open_call past)
+      → known_of call (message ∷ past) ≡ Some (Open open_call) → IsOpenBy call open_call (message ∷ past)
   open_step message past open_call rest is = cases (is_about call message) refl
     where
       opens_it : is_about call message ≡ true → message.header.kind ≡ kinds.Request
-          → known_by_request (opened rules message) (known_at message.now (known_of rules call past)) ≡ Open open_call → open_call ≡ opened rules message
-          → IsOpenBy rules call open_call (message ∷ past)
+          → known_by_request (opened message) (known_at message.now (known_of call past)) ≡ Open open_call → open_call ≡ opened message
+          → IsOpenBy call open_call (message ∷ past)
       opens_it about asks anew new = record {
         later = [];
         request = message;
@@ -235,17 +235,17 @@ module _ (rules : CallRules) (call : AuditedCall) where
         about = about;
         asks = ap is_request_type asks;
         opens = new;
-        anew = ap (λ o. known_by_request o (known_at message.now (known_of rules call past))) new ∙ anew;
+        anew = ap (λ o. known_by_request o (known_at message.now (known_of call past))) new ∙ anew;
         since = tt;
       }
 
-      by_kind : is_about call message ≡ true → message.header.kind ≡ kinds.Request → IsOpenBy rules call open_call (message ∷ past)
+      by_kind : is_about call message ≡ true → message.header.kind ≡ kinds.Request → IsOpenBy call open_call (message ∷ past)
       by_kind about asks =
-          let anew : known_by_request (opened rules message) (known_at message.now (known_of rules call past)) ≡ Open open_call =
+          let anew : known_by_request (opened message) (known_at message.now (known_of call past)) ≡ Open open_call =
           some_same (sym (after_request message past about asks) ∙ is) in
-          elim (by_request (opened rules message) open_call (known_at message.now (known_of rules call past)) anew) [
+          elim (by_request (opened message) open_call (known_at message.now (known_of call past)) anew) [
             | inl again ↦
-                let was = at_open message.now (known_of rules call past) open_call again.0 in
+                let was = at_open message.now (known_of call past) open_call again.0 in
                 one_more_open open_call message past (λ _. (ap is_request_type asks, was.1, again.1)) (rest was.0)
             | inr new ↦ opens_it about asks anew new
           ]
@@ -253,45 +253,45 @@ module _ (rules : CallRules) (call : AuditedCall) where
           some_same : {a b : Known} → Some a ≡ Some b → a ≡ b
           some_same e = cc
 
-      cases : (b : Bool) → is_about call message ≡ b → IsOpenBy rules call open_call (message ∷ past)
+      cases : (b : Bool) → is_about call message ≡ b → IsOpenBy call open_call (message ∷ past)
       cases true about =
           about_by message.header.kind call message about (by_kind about)
           (λ answers. absurd (not_open_by_answer _ _ open_call (sym (after_answer message past about answers) ∙ is)))
       cases false other = one_more_open open_call message past (λ about. absurd (cc)) (rest (sym (after_other message past other) ∙ is))
 
-  pub open_is_by : (past : List Tapped) (open_call : OpenCall) → known_of rules call past ≡ Some (Open open_call) → IsOpenBy rules call open_call past
+  pub open_is_by : (past : List Tapped) (open_call : OpenCall) → known_of call past ≡ Some (Open open_call) → IsOpenBy call open_call past
   open_is_by [] open_call is = absurd (cc)
   open_is_by (message ∷ past) open_call is = open_step message past open_call (open_is_by past open_call) is
 
-  stay_open_step : (open_call : OpenCall) (message : Tapped) (past : List Tapped) → (is_about call message ≡ true → LeavesOpen rules open_call message)
-      → known_of rules call past ≡ Some (Open open_call) → known_of rules call (message ∷ past) ≡ Some (Open open_call)
+  stay_open_step : (open_call : OpenCall) (message : Tapped) (past : List Tapped) → (is_about call message ≡ true → LeavesOpen open_call message)
+      → known_of call past ≡ Some (Open open_call) → known_of call (message ∷ past) ≡ Some (Open open_call)
   stay_open_step open_call message past since rest = cases (is_about call message) refl
     where
-      cases : (b : Bool) → is_about call message ≡ b → known_of rules call (message ∷ past) ≡ Some (Open open_call)
+      cases : (b : Bool) → is_about call message ≡ b → known_of call (message ∷ past) ≡ Some (Open open_call)
       cases true about =
           let leaves = since about in
           after_request message past about (request_is message.header.kind leaves.0)
-          ∙ ap (λ v. Some (known_by_request (opened rules message) (known_at message.now v))) rest
-          ∙ ap (λ v. Some (known_by_request (opened rules message) v)) (open_at message.now open_call leaves.1)
-          ∙ ap (λ b. Some (cond b (Open open_call) (Open (opened rules message)))) leaves.2
+          ∙ ap (λ v. Some (known_by_request (opened message) (known_at message.now v))) rest
+          ∙ ap (λ v. Some (known_by_request (opened message) v)) (open_at message.now open_call leaves.1)
+          ∙ ap (λ b. Some (cond b (Open open_call) (Open (opened message)))) leaves.2
       cases false other = after_other message past other ∙ rest
 
-  stays_open : (open_call : OpenCall) (later past : List Tapped) → AllAbout call (LeavesOpen rules open_call) later → known_of rules call past ≡ Some (Open open_call)
-      → known_of rules call (later ++ past) ≡ Some (Open open_call)
+  stays_open : (open_call : OpenCall) (later past : List Tapped) → AllAbout call (LeavesOpen open_call) later → known_of call past ≡ Some (Open open_call)
+      → known_of call (later ++ past) ≡ Some (Open open_call)
   stays_open open_call [] past since is = is
   stays_open open_call (message ∷ later) past since is = stay_open_step open_call message (later ++ past) since.0 (stays_open open_call later past since.1 is)
 
-  pub by_is_open : (past : List Tapped) (open_call : OpenCall) → IsOpenBy rules call open_call past → known_of rules call past ≡ Some (Open open_call)
+  pub by_is_open : (past : List Tapped) (open_call : OpenCall) → IsOpenBy call open_call past → known_of call past ≡ Some (Open open_call)
   by_is_open past open_call r =
-      ap (known_of rules call) r.among
+      ap (known_of call) r.among
       ∙ stays_open open_call r.later (r.request ∷ r.earlier) r.since
       (after_request r.request r.earlier r.about (request_is r.request.header.kind r.asks)
-      ∙ ap (λ o. Some (known_by_request o (known_at r.request.now (known_of rules call r.earlier)))) (sym r.opens) ∙ ap Some r.anew)
+      ∙ ap (λ o. Some (known_by_request o (known_at r.request.now (known_of call r.earlier)))) (sym r.opens) ∙ ap Some r.anew)
 
   -- ---- a call stands answered by its first answer
 
-  one_more_answered : (until : ℕ) (message : Tapped) (past : List Tapped) → (is_about call message ≡ true → LeavesAnswered until message) → IsAnsweredBy rules call until past
-      → IsAnsweredBy rules call until (message ∷ past)
+  one_more_answered : (until : ℕ) (message : Tapped) (past : List Tapped) → (is_about call message ≡ true → LeavesAnswered until message) → IsAnsweredBy call until past
+      → IsAnsweredBy call until (message ∷ past)
   one_more_answered until message past leaves r = record {
     later = message ∷ r.later;
     answer = r.answer;
@@ -305,28 +305,28 @@ module _ (rules : CallRules) (call : AuditedCall) where
   }
 
   -- a call that is open or overdue at a moment was open
-  was_open_at : (now : ℕ) (past : List Tapped) (v : Option Known) → known_at now (known_of rules call past) ≡ v
-      → ((open_call : OpenCall) × (v ≡ Some (Open open_call))) ⊎ ((since : ℕ) × (v ≡ Some (Overdue since))) → (open_call : OpenCall) × (known_of rules call past ≡ Some (Open open_call))
-  was_open_at now past v is (inl open_one) = (open_one.0, (at_open now (known_of rules call past) open_one.0 (is ∙ open_one.1)).0)
+  was_open_at : (now : ℕ) (past : List Tapped) (v : Option Known) → known_at now (known_of call past) ≡ v
+      → ((open_call : OpenCall) × (v ≡ Some (Open open_call))) ⊎ ((since : ℕ) × (v ≡ Some (Overdue since))) → (open_call : OpenCall) × (known_of call past ≡ Some (Open open_call))
+  was_open_at now past v is (inl open_one) = (open_one.0, (at_open now (known_of call past) open_one.0 (is ∙ open_one.1)).0)
   was_open_at now past v is (inr overdue) =
-      let was = at_overdue now (known_of rules call past) overdue.0 (λ at e. never_overdue past at e) (is ∙ overdue.1) in
+      let was = at_overdue now (known_of call past) overdue.0 (λ at e. never_overdue past at e) (is ∙ overdue.1) in
       (was.0, was.1)
 
-  answered_step : (message : Tapped) (past : List Tapped) (until : ℕ) → (known_of rules call past ≡ Some (Answered until) → IsAnsweredBy rules call until past)
-      → known_of rules call (message ∷ past) ≡ Some (Answered until) → IsAnsweredBy rules call until (message ∷ past)
+  answered_step : (message : Tapped) (past : List Tapped) (until : ℕ) → (known_of call past ≡ Some (Answered until) → IsAnsweredBy call until past)
+      → known_of call (message ∷ past) ≡ Some (Answered until) → IsAnsweredBy call until (message ∷ past)
   answered_step message past until rest is = cases (is_about call message) refl
     where
       never_asked : is_about call message ≡ true → message.header.kind ≡ kinds.Request → ⊥
       never_asked about asks =
-          let opens = request_opens (opened rules message) (known_at message.now (known_of rules call past)) in
+          let opens = request_opens (opened message) (known_at message.now (known_of call past)) in
           let e : Some (Open opens.0) ≡ Some (Answered until) = sym (after_request message past about asks ∙ ap Some opens.1) ∙ is in
           cc
 
-      by_kind : is_about call message ≡ true → is_answer_type message.header.kind ≡ true → IsAnsweredBy rules call until (message ∷ past)
+      by_kind : is_about call message ≡ true → is_answer_type message.header.kind ≡ true → IsAnsweredBy call until (message ∷ past)
       by_kind about answers =
-          elim (by_answer (message.now + rules.answer_ms) until (known_at message.now (known_of rules call past)) (sym (after_answer message past about answers) ∙ is)) [
+          elim (by_answer (message.now + message.answer_ms) until (known_at message.now (known_of call past)) (sym (after_answer message past about answers) ∙ is)) [
             | inl again ↦
-                let was = at_answered message.now (known_of rules call past) until again in
+                let was = at_answered message.now (known_of call past) until again in
                 one_more_answered until message past (λ _. (answers, was.1)) (rest was.0)
             | inr first ↦
                 record {
@@ -337,32 +337,32 @@ module _ (rules : CallRules) (call : AuditedCall) where
                   about = about;
                   answers = answers;
                   until_is = first.0;
-                  was_open = was_open_at message.now past (known_at message.now (known_of rules call past)) refl first.1;
+                  was_open = was_open_at message.now past (known_at message.now (known_of call past)) refl first.1;
                   since = tt;
                 }
           ]
 
-      cases : (b : Bool) → is_about call message ≡ b → IsAnsweredBy rules call until (message ∷ past)
+      cases : (b : Bool) → is_about call message ≡ b → IsAnsweredBy call until (message ∷ past)
       cases true about = about_by message.header.kind call message about (λ asks. absurd (never_asked about asks)) (by_kind about)
       cases false other = one_more_answered until message past (λ about. absurd (cc)) (rest (sym (after_other message past other) ∙ is))
 
-  pub answered_is_by : (past : List Tapped) (until : ℕ) → known_of rules call past ≡ Some (Answered until) → IsAnsweredBy rules call until past
+  pub answered_is_by : (past : List Tapped) (until : ℕ) → known_of call past ≡ Some (Answered until) → IsAnsweredBy call until past
   answered_is_by [] until is = absurd (cc)
   answered_is_by (message ∷ past) until is = answered_step message past until (answered_is_by past until) is
 
   stay_answered_step : (until : ℕ) (message : Tapped) (past : List Tapped) → (is_about call message ≡ true → LeavesAnswered until message)
-      → known_of rules call past ≡ Some (Answered until) → known_of rules call (message ∷ past) ≡ Some (Answered until)
+      → known_of call past ≡ Some (Answered until) → known_of call (message ∷ past) ≡ Some (Answered until)
   stay_answered_step until message past since rest = cases (is_about call message) refl
     where
-      cases : (b : Bool) → is_about call message ≡ b → known_of rules call (message ∷ past) ≡ Some (Answered until)
+      cases : (b : Bool) → is_about call message ≡ b → known_of call (message ∷ past) ≡ Some (Answered until)
       cases true about =
           let leaves = since about in
-          after_answer message past about leaves.0 ∙ ap (λ v. known_by_answer (message.now + rules.answer_ms) (known_at message.now v)) rest
-          ∙ ap (known_by_answer (message.now + rules.answer_ms)) (answered_at message.now until leaves.1)
+          after_answer message past about leaves.0 ∙ ap (λ v. known_by_answer (message.now + message.answer_ms) (known_at message.now v)) rest
+          ∙ ap (known_by_answer (message.now + message.answer_ms)) (answered_at message.now until leaves.1)
       cases false other = after_other message past other ∙ rest
 
-  stays_answered : (until : ℕ) (later past : List Tapped) → AllAbout call (LeavesAnswered until) later → known_of rules call past ≡ Some (Answered until)
-      → known_of rules call (later ++ past) ≡ Some (Answered until)
+  stays_answered : (until : ℕ) (later past : List Tapped) → AllAbout call (LeavesAnswered until) later → known_of call past ≡ Some (Answered until)
+      → known_of call (later ++ past) ≡ Some (Answered until)
   stays_answered until [] past since is = is
   stays_answered until (message ∷ later) past since is = stay_answered_step until message (later ++ past) since.0 (stays_answered until later past since.1 is)
 
@@ -374,13 +374,13 @@ module _ (rules : CallRules) (call : AuditedCall) where
       cases true = refl
       cases false = refl
 
-  pub by_is_answered : (past : List Tapped) (until : ℕ) → IsAnsweredBy rules call until past → known_of rules call past ≡ Some (Answered until)
+  pub by_is_answered : (past : List Tapped) (until : ℕ) → IsAnsweredBy call until past → known_of call past ≡ Some (Answered until)
   by_is_answered past until r =
-      ap (known_of rules call) r.among
+      ap (known_of call) r.among
       ∙ stays_answered until r.later (r.answer ∷ r.earlier) r.since
       (after_answer r.answer r.earlier r.about r.answers
-      ∙ ap (λ v. known_by_answer (r.answer.now + rules.answer_ms) (known_at r.answer.now v)) r.was_open.1
-      ∙ answers_open r.answer.now (r.answer.now + rules.answer_ms) r.was_open.0
+      ∙ ap (λ v. known_by_answer (r.answer.now + r.answer.answer_ms) (known_at r.answer.now v)) r.was_open.1
+      ∙ answers_open r.answer.now (r.answer.now + r.answer.answer_ms) r.was_open.0
       ∙ ap (λ n. Some (Answered n)) (sym r.until_is))
 
 -- ---- late answers
@@ -404,23 +404,23 @@ request_never_late session new (Some (Open other)) after is = cases (says_the_sa
 
 module _ (rules : CallRules) (message : Tapped) (past : List Tapped) (after : ℕ) where
   abbrev what : Option Known
-  what = known_of rules (call_answered message) past
+  what = known_of (call_answered message) past
 
   answer_late : is_answer_type message.header.kind ≡ true
-      → told_of_answer (may_be_asked rules false message.now) message.now (known_at message.now what) ≡ Some (Late after) → IsLate rules after message past
+      → told_of_answer (may_be_asked rules message.answer_ms false message.now) message.now (known_at message.now what) ≡ Some (Late after) → IsLate after message past
   answer_late answers is =
-      let overdue = late_by (may_be_asked rules false message.now) message.now after (known_at message.now what) is in
-      let was = at_overdue message.now what overdue.0 (λ at e. never_overdue rules (call_answered message) past at e) overdue.1 in
+      let overdue = late_by (may_be_asked rules message.answer_ms false message.now) message.now after (known_at message.now what) is in
+      let was = at_overdue message.now what overdue.0 (λ at e. never_overdue (call_answered message) past at e) overdue.1 in
       (answers, (was.0, was.1, was.2, overdue.2 ∙ ap (λ n. message.now - n) (sym was.3)))
 
-  late_told : IsLate rules after message past → told_of_answer (may_be_asked rules false message.now) message.now (known_at message.now what) ≡ Some (Late after)
+  late_told : IsLate after message past → told_of_answer (may_be_asked rules message.answer_ms false message.now) message.now (known_at message.now what) ≡ Some (Late after)
   late_told late =
       let open_one = late.1 in
-      ap (λ v. told_of_answer (may_be_asked rules false message.now) message.now (known_at message.now v)) open_one.1
-      ∙ ap (told_of_answer (may_be_asked rules false message.now) message.now) (overdue_at message.now open_one.0 open_one.2) ∙ ap (λ n. Some (Late n)) (sym open_one.3)
+      ap (λ v. told_of_answer (may_be_asked rules message.answer_ms false message.now) message.now (known_at message.now v)) open_one.1
+      ∙ ap (told_of_answer (may_be_asked rules message.answer_ms false message.now) message.now) (overdue_at message.now open_one.0 open_one.2) ∙ ap (λ n. Some (Late n)) (sym open_one.3)
 
-  late_from : (kind : MessageType) → message.header.kind ≡ kind → told_after_by kind rules message past ≡ Some (Late after) → IsLate rules after message past
-  late_from kinds.Request is e = absurd (request_never_late message.header.session (opened rules message) (known_at message.now (known_of rules (call_asked message) past)) after e)
+  late_from : (kind : MessageType) → message.header.kind ≡ kind → told_after_by kind rules message past ≡ Some (Late after) → IsLate after message past
+  late_from kinds.Request is e = absurd (request_never_late message.header.session (opened message) (known_at message.now (known_of (call_asked message) past)) after e)
   late_from kinds.Response is e = answer_late (ap is_answer_type is) e
   late_from kinds.Error is e = answer_late (ap is_answer_type is) e
   late_from kinds.RequestNoReturn is e = absurd (cc)
@@ -432,7 +432,7 @@ module _ (rules : CallRules) (message : Tapped) (past : List Tapped) (after : �
   late_from kinds.TpError is e = absurd (cc)
 
   answer_is_told : (kind : MessageType) → is_answer_type kind ≡ true
-      → told_after_by kind rules message past ≡ told_of_answer (may_be_asked rules false message.now) message.now (known_at message.now what)
+      → told_after_by kind rules message past ≡ told_of_answer (may_be_asked rules message.answer_ms false message.now) message.now (known_at message.now what)
   answer_is_told kinds.Response is = refl
   answer_is_told kinds.Error is = refl
   answer_is_told kinds.Request is = absurd (cc)
@@ -444,5 +444,5 @@ module _ (rules : CallRules) (message : Tapped) (past : List Tapped) (after : �
   answer_is_told kinds.TpResponse is = absurd (cc)
   answer_is_told kinds.TpError is = absurd (cc)
 
-  pub late_is : (told_after rules message past ≡ Some (Late after)) ↔ IsLate rules after message past
+  pub late_is : (told_after rules message past ≡ Some (Late after)) ↔ IsLate after message past
   late_is = (λ e. late_from message.header.kind refl e, λ late. answer_is_told message.header.kind late.0 ∙ late_told late)

@@ -70,7 +70,7 @@ pub record Holds (latest : ℕ) (held what : Option Known) : Type 0 where
   pub is_told : (open_call : OpenCall) → what ≡ Some (Open open_call) → (held ≡ Some (Open open_call)) ⊎ (held ≡ Some (Overdue open_call.since))
 
 abbrev pub HoldsAll : ℕ → Book → List Tapped → Type 0
-HoldsAll latest book past = (call : AuditedCall) → Holds latest (get book.calls call) (known_of book.rules call past)
+HoldsAll latest book past = (call : AuditedCall) → Holds latest (get book.calls call) (known_of call past)
 
 pub stands_from : (latest : ℕ) (book : Book) (past : List Tapped) → HoldsAll latest book past → StandsFor latest book past
 stands_from latest book past all = record { knows = λ call. (all call).knows; is_open = λ call. (all call).is_open; is_told = λ call. (all call).is_told }
@@ -108,36 +108,36 @@ new_stands rules latest = stands_from latest (new_book rules) [] (λ call. holds
 
 module _ (latest : ℕ) (book : Book) (message : Tapped) (past : List Tapped) (le : latest ≤ message.now) (stands : HoldsAll latest book past) where
   -- what is known of a call at the message's moment
-  at_its_moment : (call : AuditedCall) → known_at message.now (get book.calls call) ≡ known_at message.now (known_of book.rules call past)
+  at_its_moment : (call : AuditedCall) → known_at message.now (get book.calls call) ≡ known_at message.now (known_of call past)
   at_its_moment call = (stands call).knows message.now le
 
   -- a REQUEST
   request_holds : (other : AuditedCall)
-      → Holds message.now (get (insert book.calls (call_asked message) (known_by_request (opened book.rules message) (known_at message.now (get book.calls (call_asked message))))) other)
-      (cond (eq_by_cmp call_cmp other (call_asked message)) (Some (known_by_request (opened book.rules message) (known_at message.now (known_of book.rules other past)))) (known_of book.rules other past))
+      → Holds message.now (get (insert book.calls (call_asked message) (known_by_request (opened message) (known_at message.now (get book.calls (call_asked message))))) other)
+      (cond (eq_by_cmp call_cmp other (call_asked message)) (Some (known_by_request (opened message) (known_at message.now (known_of other past)))) (known_of other past))
   request_holds other = rw (get-insert calls_total book.calls (call_asked message) what other) (at (eq_by_cmp call_cmp other (call_asked message)) refl)
     where
       what : Known
-      what = known_by_request (opened book.rules message) (known_at message.now (get book.calls (call_asked message)))
+      what = known_by_request (opened message) (known_at message.now (get book.calls (call_asked message)))
 
       at : (t : Bool) → eq_by_cmp call_cmp other (call_asked message) ≡ t
-          → Holds message.now (cond t (Some (known_by_request (opened book.rules message) (known_at message.now (get book.calls (call_asked message))))) (get book.calls other))
-          (cond t (Some (known_by_request (opened book.rules message) (known_at message.now (known_of book.rules other past)))) (known_of book.rules other past))
+          → Holds message.now (cond t (Some (known_by_request (opened message) (known_at message.now (get book.calls (call_asked message))))) (get book.calls other))
+          (cond t (Some (known_by_request (opened message) (known_at message.now (known_of other past)))) (known_of other past))
       at true tie =
           let same : other ≡ call_asked message = same_by_test exact_calls other (call_asked message) tie in
-          let known : known_at message.now (get book.calls (call_asked message)) ≡ known_at message.now (known_of book.rules other past) =
+          let known : known_at message.now (get book.calls (call_asked message)) ≡ known_at message.now (known_of other past) =
           ap (λ c. known_at message.now (get book.calls c)) (sym same) ∙ at_its_moment other in
-          holds_same message.now _ _ (ap (λ v. Some (known_by_request (opened book.rules message) v)) known)
+          holds_same message.now _ _ (ap (λ v. Some (known_by_request (opened message) v)) known)
       at false apart = holds_later latest message.now _ _ le (stands other)
 
   -- an answer
   answer_holds : (other : AuditedCall) (until : ℕ)
       → Holds message.now (get (with_known (call_answered message) (known_by_answer until (known_at message.now (get book.calls (call_answered message)))) book.calls) other)
-      (cond (eq_by_cmp call_cmp other (call_answered message)) (known_by_answer until (known_at message.now (known_of book.rules other past))) (known_of book.rules other past))
+      (cond (eq_by_cmp call_cmp other (call_answered message)) (known_by_answer until (known_at message.now (known_of other past))) (known_of other past))
   answer_holds other until = by (known_by_answer until (known_at message.now (get book.calls (call_answered message)))) refl (eq_by_cmp call_cmp other (call_answered message)) refl
     where
       says : eq_by_cmp call_cmp other (call_answered message) ≡ true
-          → known_by_answer until (known_at message.now (get book.calls (call_answered message))) ≡ known_by_answer until (known_at message.now (known_of book.rules other past))
+          → known_by_answer until (known_at message.now (get book.calls (call_answered message))) ≡ known_by_answer until (known_at message.now (known_of other past))
       says tie =
           let same : other ≡ call_answered message = same_by_test exact_calls other (call_answered message) tie in
           ap (known_by_answer until) (ap (λ c. known_at message.now (get book.calls c)) (sym same) ∙ at_its_moment other)
@@ -145,7 +145,7 @@ module _ (latest : ℕ) (book : Book) (message : Tapped) (past : List Tapped) (l
       by : (v : Option Known) → known_by_answer until (known_at message.now (get book.calls (call_answered message))) ≡ v → (t : Bool)
           → eq_by_cmp call_cmp other (call_answered message) ≡ t
           → Holds message.now (get (with_known (call_answered message) v book.calls) other)
-          (cond t (known_by_answer until (known_at message.now (known_of book.rules other past))) (known_of book.rules other past))
+          (cond t (known_by_answer until (known_at message.now (known_of other past))) (known_of other past))
       by None is true tie =
           let same : other ≡ call_answered message = same_by_test exact_calls other (call_answered message) tie in
           let gone : known_at message.now (get book.calls other) ≡ None =
@@ -161,7 +161,7 @@ module _ (latest : ℕ) (book : Book) (message : Tapped) (past : List Tapped) (l
 
   -- the book with the call of a REQUEST
   abbrev asked_book : Book
-  asked_book = record book { calls = insert book.calls (call_asked message) (known_by_request (opened book.rules message) (known message.now book.calls (call_asked message))) }
+  asked_book = record book { calls = insert book.calls (call_asked message) (known_by_request (opened message) (known message.now book.calls (call_asked message))) }
 
   request_holds_all : message.header.kind ≡ kinds.Request → HoldsAll message.now asked_book (message ∷ past)
   request_holds_all is = λ other. rw is (request_holds other)
@@ -172,8 +172,8 @@ module _ (latest : ℕ) (book : Book) (message : Tapped) (past : List Tapped) (l
   -- a message of each type
   saw_holds : (kind : MessageType) → message.header.kind ≡ kind → finds_room_by kind message book ≡ true → HoldsAll message.now (book_by kind message book) (message ∷ past)
   saw_holds kinds.Request is room = let P : Book → Type 0 = λ b. HoldsAll message.now b (message ∷ past) in subst P (sym (book_with_room room)) (request_holds_all is)
-  saw_holds kinds.Response is room = λ other. rw is (answer_holds other (message.now + book.rules.answer_ms))
-  saw_holds kinds.Error is room = λ other. rw is (answer_holds other (message.now + book.rules.answer_ms))
+  saw_holds kinds.Response is room = λ other. rw is (answer_holds other (message.now + message.answer_ms))
+  saw_holds kinds.Error is room = λ other. rw is (answer_holds other (message.now + message.answer_ms))
   saw_holds kinds.RequestNoReturn is room = λ other. rw is (holds_later latest message.now _ _ le (stands other))
   saw_holds kinds.Notification is room = λ other. rw is (holds_later latest message.now _ _ le (stands other))
   saw_holds kinds.TpRequest is room = λ other. rw is (holds_later latest message.now _ _ le (stands other))
@@ -184,14 +184,14 @@ module _ (latest : ℕ) (book : Book) (message : Tapped) (past : List Tapped) (l
 
   -- what is told of it
   answer_told : book.full ≡ false
-      → told_of_answer (may_be_asked book.rules book.full message.now) message.now (known_at message.now (get book.calls (call_answered message)))
-      ≡ told_of_answer (may_be_asked book.rules false message.now) message.now (known_at message.now (known_of book.rules (call_answered message) past))
+      → told_of_answer (may_be_asked book.rules message.answer_ms book.full message.now) message.now (known_at message.now (get book.calls (call_answered message)))
+      ≡ told_of_answer (may_be_asked book.rules message.answer_ms false message.now) message.now (known_at message.now (known_of (call_answered message) past))
   answer_told not_full =
-      ap (λ full. told_of_answer (may_be_asked book.rules full message.now) message.now (known_at message.now (get book.calls (call_answered message)))) not_full
-      ∙ ap (told_of_answer (may_be_asked book.rules false message.now) message.now) (at_its_moment (call_answered message))
+      ap (λ full. told_of_answer (may_be_asked book.rules message.answer_ms full message.now) message.now (known_at message.now (get book.calls (call_answered message)))) not_full
+      ∙ ap (told_of_answer (may_be_asked book.rules message.answer_ms false message.now) message.now) (at_its_moment (call_answered message))
 
   told_is : (kind : MessageType) → finds_room_by kind message book ≡ true → book.full ≡ false → told_by kind message book ≡ told_after_by kind book.rules message past
-  told_is kinds.Request room not_full = rw room (ap (told_of_request message.header.session (opened book.rules message)) (at_its_moment (call_asked message)))
+  told_is kinds.Request room not_full = rw room (ap (told_of_request message.header.session (opened message)) (at_its_moment (call_asked message)))
   told_is kinds.Response room not_full = answer_told not_full
   told_is kinds.Error room not_full = answer_told not_full
   told_is kinds.RequestNoReturn room not_full = refl
@@ -260,14 +260,14 @@ known_holds latest now moment (Some (Answered until)) what le past holds = cases
 
 -- so it is where there is room, or room is made by a moment that has come
 room_holds : (latest now moment limit : ℕ) (book : Book) (past : List Tapped) → latest ≤ now → moment ≤ now → HoldsAll latest book past → (call : AuditedCall)
-    → Holds now (get (with_room limit moment book.calls) call) (known_of book.rules call past)
+    → Holds now (get (with_room limit moment book.calls) call) (known_of call past)
 room_holds latest now moment limit book past le come all call = cases (nat_le (len book.calls + most_messages) limit)
   where
-    cases : (b : Bool) → Holds now (get (cond b book.calls (still_known moment book.calls)) call) (known_of book.rules call past)
+    cases : (b : Bool) → Holds now (get (cond b book.calls (still_known moment book.calls)) call) (known_of call past)
     cases true = holds_later latest now _ _ le (all call)
     cases false =
         rw (get-retain calls_total exact_calls book.calls (λ _ what. is_known_at moment what) call)
-        (known_holds latest now moment (get book.calls call) (known_of book.rules call past) le come (all call))
+        (known_holds latest now moment (get book.calls call) (known_of call past) le come (all call))
 
 pub due_stands : (book : Book) (latest now : ℕ) (one : Unanswered) (past : List Tapped) → latest ≤ now → IsOpenCall book.calls one → one.until ≤ now → StandsFor latest book past
     → StandsFor now (record book { calls = calls_after_due book.rules.limit now (Some one) book.calls }) past
@@ -276,7 +276,7 @@ due_stands book latest now one past le is_open over stands =
     rw (get-insert calls_total (with_room book.rules.limit one.until book.calls) one.call (Overdue one.since) call) (at call (eq_by_cmp call_cmp call one.call) refl))
   where
     at : (call : AuditedCall) (t : Bool) → eq_by_cmp call_cmp call one.call ≡ t
-        → Holds now (cond t (Some (Overdue one.since)) (get (with_room book.rules.limit one.until book.calls) call)) (known_of book.rules call past)
+        → Holds now (cond t (Some (Overdue one.since)) (get (with_room book.rules.limit one.until book.calls) call)) (known_of call past)
     at call true tie =
         let same : call ≡ one.call = same_by_test exact_calls call one.call tie in
         let held : get book.calls call ≡ Some (Open is_open.0) = ap (get book.calls) same ∙ is_open.1 in

@@ -23,7 +23,7 @@ finds_room message book = finds_room_by message.header.kind message book
 -- a book stands for messages, the newest first, at a moment: from then on it knows of each call what they say; a call that is
 -- open in the book is open by the messages; and one that is open by the messages is open in the book, or was told
 pub record StandsFor (latest : ℕ) (book : Book) (past : List Tapped) : Type 0 where
-  pub knows : (call : AuditedCall) (now : ℕ) → latest ≤ now → known_at now (finite.get book.calls call) ≡ known_at now (known_of book.rules call past)
-  pub is_open : (call : AuditedCall) (open_call : OpenCall) → finite.get book.calls call ≡ Some (Open open_call) → known_of book.rules call past ≡ Some (Open open_call)
-  pub is_told : (call : AuditedCall) (open_call : OpenCall) → known_of book.rules call past ≡ Some (Open open_call)
+  pub knows : (call : AuditedCall) (now : ℕ) → latest ≤ now → known_at now (finite.get book.calls call) ≡ known_at now (known_of call past)
+  pub is_open : (call : AuditedCall) (open_call : OpenCall) → finite.get book.calls call ≡ Some (Open open_call) → known_of call past ≡ Some (Open open_call)
+  pub is_told : (call : AuditedCall) (open_call : OpenCall) → known_of call past ≡ Some (Open open_call)
       → (finite.get book.calls call ≡ Some (Open open_call)) ⊎ (finite.get book.calls call ≡ Some (Overdue open_call.since))

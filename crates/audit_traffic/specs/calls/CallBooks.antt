@@ -32,18 +32,19 @@ new_book rules = record { rules = rules; calls = finite.empty; full = false }
 abbrev pub known : ℕ → Calls → AuditedCall → Option Known
 known now calls call = known_at now (finite.get calls call)
 
--- a call of which nothing is known may have been asked: before the recording began, or it was refused for want of room
-abbrev pub may_be_asked : CallRules → Bool → ℕ → Bool
-may_be_asked rules full now = nat_lt now (rules.begins + rules.answer_ms) || full
+-- a call of which nothing is known may have been asked: before the recording began, by what an answer to it may take, or it was
+-- refused for want of room
+abbrev pub may_be_asked : CallRules → ℕ → Bool → ℕ → Bool
+may_be_asked rules answer_ms full now = nat_lt now (rules.begins + answer_ms) || full
 
 -- what is told of a message
 abbrev pub told_by : MessageType → Tapped → Book → Option CallFinding
 told_by Request message book =
     if may_hold book.rules.limit book.calls (call_asked message)
-    then told_of_request message.header.session (opened book.rules message) (known message.now book.calls (call_asked message))
+    then told_of_request message.header.session (opened message) (known message.now book.calls (call_asked message))
     else if book.full then None else Some Full
-told_by Response message book = told_of_answer (may_be_asked book.rules book.full message.now) message.now (known message.now book.calls (call_answered message))
-told_by Error message book = told_of_answer (may_be_asked book.rules book.full message.now) message.now (known message.now book.calls (call_answered message))
+told_by Response message book = told_of_answer (may_be_asked book.rules message.answer_ms book.full message.now) message.now (known message.now book.calls (call_answered message))
+told_by Error message book = told_of_answer (may_be_asked book.rules message.answer_ms book.full message.now) message.now (known message.now book.calls (call_answered message))
 told_by _ message book = None
 
 abbrev pub told : Tapped → Book → Option CallFinding
@@ -57,13 +58,13 @@ with_known call (Some what) calls = finite.insert calls call what
 -- the calls once an answer came
 abbrev pub calls_answered : Tapped → Book → Calls
 calls_answered message book =
-    with_known (call_answered message) (known_by_answer (message.now + book.rules.answer_ms) (known message.now book.calls (call_answered message))) book.calls
+    with_known (call_answered message) (known_by_answer (message.now + message.answer_ms) (known message.now book.calls (call_answered message))) book.calls
 
 -- the book then
 abbrev pub book_by : MessageType → Tapped → Book → Book
 book_by Request message book =
     if may_hold book.rules.limit book.calls (call_asked message)
-    then record book { calls = finite.insert book.calls (call_asked message) (known_by_request (opened book.rules message) (known message.now book.calls (call_asked message))) }
+    then record book { calls = finite.insert book.calls (call_asked message) (known_by_request (opened message) (known message.now book.calls (call_asked message))) }
     else record book { full = true }
 book_by Response message book = record book { calls = calls_answered message book }
 book_by Error message book = record book { calls = calls_answered message book }

@@ -54,8 +54,7 @@ coded_known = code_by KnownCode (coded⊎ coded_open (coded⊎ coded_ℕ coded_�
 
 abbrev pub coded_rules : Coded CallRules
 coded_rules =
-    code_by (ℕ × (ℕ × ℕ)) (coded× coded_ℕ (coded× coded_ℕ coded_ℕ)) (λ r. (r.limit, (r.answer_ms, r.begins)))
-    (λ p. record { limit = p.0; answer_ms = p.1.0; begins = p.1.1 }) (λ _. refl)
+    code_by (ℕ × ℕ) (coded× coded_ℕ coded_ℕ) (λ r. (r.limit, r.begins)) (λ p. record { limit = p.0; begins = p.1 }) (λ _. refl)
 
 abbrev pub coded_book : Coded Book
 coded_book =

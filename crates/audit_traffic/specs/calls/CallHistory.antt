@@ -21,26 +21,26 @@ abbrev pub is_about : AuditedCall → Tapped → Bool
 is_about call message = is_this call (call_of message)
 
 -- what a message about a call makes of what is known of it
-abbrev pub known_by : MessageType → CallRules → Tapped → Option Known → Option Known
-known_by Request rules message what = Some (known_by_request (opened rules message) what)
-known_by Response rules message what = known_by_answer (message.now + rules.answer_ms) what
-known_by Error rules message what = known_by_answer (message.now + rules.answer_ms) what
-known_by _ rules message what = what
+abbrev pub known_by : MessageType → Tapped → Option Known → Option Known
+known_by Request message what = Some (known_by_request (opened message) what)
+known_by Response message what = known_by_answer (message.now + message.answer_ms) what
+known_by Error message what = known_by_answer (message.now + message.answer_ms) what
+known_by _ message what = what
 
 -- what is known of a call after these messages: the newest one about it decides, by what was known of it at its moment
-abbrev pub known_of : CallRules → AuditedCall → List Tapped → Option Known
-known_of rules call [] = None
-known_of rules call (message ∷ past) =
-    if is_about call message then known_by message.header.kind rules message (known_at message.now (known_of rules call past)) else known_of rules call past
+abbrev pub known_of : AuditedCall → List Tapped → Option Known
+known_of call [] = None
+known_of call (message ∷ past) =
+    if is_about call message then known_by message.header.kind message (known_at message.now (known_of call past)) else known_of call past
 
 -- what is told of a message after others, where no call was refused for want of room
 abbrev pub told_after_by : MessageType → CallRules → Tapped → List Tapped → Option CallFinding
 told_after_by Request rules message past =
-    told_of_request message.header.session (opened rules message) (known_at message.now (known_of rules (call_asked message) past))
+    told_of_request message.header.session (opened message) (known_at message.now (known_of (call_asked message) past))
 told_after_by Response rules message past =
-    told_of_answer (may_be_asked rules false message.now) message.now (known_at message.now (known_of rules (call_answered message) past))
+    told_of_answer (may_be_asked rules message.answer_ms false message.now) message.now (known_at message.now (known_of (call_answered message) past))
 told_after_by Error rules message past =
-    told_of_answer (may_be_asked rules false message.now) message.now (known_at message.now (known_of rules (call_answered message) past))
+    told_of_answer (may_be_asked rules message.answer_ms false message.now) message.now (known_at message.now (known_of (call_answered message) past))
 told_after_by _ rules message past = None
 
 abbrev pub told_after : CallRules → Tapped → List Tapped → Option CallFinding

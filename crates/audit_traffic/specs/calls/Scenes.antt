@@ -9,9 +9,9 @@ use Rattle.audit_traffic.specs.declared.calls.call.AuditedCall.{AuditedCall}
 use Rattle.audit_traffic.specs.declared.calls.finding.CallRules.{CallRules}
 use Rattle.audit_traffic.specs.calls.Tapped.{Tapped, call_asked}
 
--- 65,536 calls and 2 s for an answer, in a recording that begins at moment 1000
+-- 65,536 calls, in a recording that begins at moment 1000
 abbrev pub rules : CallRules
-rules = record { limit = 65536; answer_ms = 2000; begins = 1000 }
+rules = record { limit = 65536; begins = 1000 }
 
 abbrev pub client : SocketAddrV4
 client = record { ip = record { octets = 192 ∷ 168 ∷ 0 ∷ 2 ∷ [] }; port = 40000 }
@@ -31,9 +31,9 @@ header_with session kind = record { service = 0x1234; method = 0x0421; client = 
 abbrev pub numbered : ℕ → Numbers
 numbered k = record { datagram = k; frame = k + 2 }
 
--- a message of this type from one endpoint to another at a moment, in the datagram of its number
+-- a message of this type from one endpoint to another at a moment, in the datagram of its number, with 2 s for an answer
 abbrev pub message_at : ℕ → SocketAddrV4 → SocketAddrV4 → ℕ → MessageType → List ℕ → Tapped
-message_at now from to session kind payload = record { now = now; numbers = numbered 7; from = from; to = to; header = header_with session kind; payload = payload }
+message_at now from to session kind payload = record { now = now; answer_ms = 2000; numbers = numbered 7; from = from; to = to; header = header_with session kind; payload = payload }
 
 -- a REQUEST with session 5, and one without sessions
 abbrev pub request_at : ℕ → List ℕ → Tapped

@@ -7,22 +7,23 @@ use Rattle.someip_wire.specs.declared.header.MessageType.TheVariants.{Request, R
 use Rattle.someip_wire.specs.declared.message.Message.{Message}
 use Rattle.someip_tables.specs.declared.hashed.origin.Numbers.{Numbers}
 use Rattle.audit_traffic.specs.declared.calls.call.AuditedCall.{AuditedCall}
-use Rattle.audit_traffic.specs.declared.calls.finding.CallRules.{CallRules}
 use Rattle.audit_traffic.specs.declared.calls.known.OpenCall.{OpenCall}
 use Rattle.audit_traffic.specs.calls.AuditedCalls.{asked_call, answered_call}
 use Rattle.audit_traffic.specs.calls.Excerpts.{excerpt_of}
 
--- a whole message, as it was seen: when, in which datagram, and between which endpoints
+-- a whole message, as it was seen: when, how long an answer to it or to its call may take, in which datagram, and between which
+-- endpoints
 pub record Tapped : Type 0 where
   pub now : ℕ
+  pub answer_ms : ℕ
   pub numbers : Numbers
   pub from : SocketAddrV4
   pub to : SocketAddrV4
   pub header : Header
   pub payload : List ℕ
 
-abbrev pub tapped : ℕ → Numbers → SocketAddrV4 → SocketAddrV4 → Message → Tapped
-tapped now numbers from to message = record { now = now; numbers = numbers; from = from; to = to; header = message.header; payload = message.payload.now }
+abbrev pub tapped : ℕ → ℕ → Numbers → SocketAddrV4 → SocketAddrV4 → Message → Tapped
+tapped now answer_ms numbers from to message = record { now = now; answer_ms = answer_ms; numbers = numbers; from = from; to = to; header = message.header; payload = message.payload.now }
 
 -- the call that a message opens, if it is a REQUEST
 abbrev pub call_asked : Tapped → AuditedCall
@@ -44,8 +45,8 @@ abbrev pub call_of : Tapped → Option AuditedCall
 call_of message = call_by message.header.kind message
 
 -- a call as its REQUEST opens it, at a moment and in a datagram: it waits for as long as an answer may take
-abbrev pub open_with : CallRules → ℕ → Numbers → List ℕ → OpenCall
-open_with rules now numbers payload = record { numbers = numbers; since = now; until = now + rules.answer_ms; excerpt = excerpt_of payload }
+abbrev pub open_with : ℕ → ℕ → Numbers → List ℕ → OpenCall
+open_with answer_ms now numbers payload = record { numbers = numbers; since = now; until = now + answer_ms; excerpt = excerpt_of payload }
 
-abbrev pub opened : CallRules → Tapped → OpenCall
-opened rules message = open_with rules message.now message.numbers message.payload
+abbrev pub opened : Tapped → OpenCall
+opened message = open_with message.answer_ms message.now message.numbers message.payload

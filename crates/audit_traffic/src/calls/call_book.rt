@@ -78,34 +78,42 @@ impl CallBook {
     }
 
     /// Takes note of a whole message of the datagram with these numbers, and says what it shows that is not
-    /// as it should be. A message whose type has the TP flag is nothing to it: segments are put together
+    /// as it should be. An answer to it, or to its call, may take so many milliseconds. A message whose type has the TP flag is nothing to it: segments are put together
     /// before. It takes memory only where it changes what is known, and what is refused for it leaves
     /// the book as it was.
     pub fn saw(
         &mut self,
         now: Moment,
+        answer_ms: u32,
         numbers: Numbers,
         from: SocketAddrV4,
         to: SocketAddrV4,
         message: &Message<'_>,
     ) -> Result<Option<CallFinding>, AllocError>
         ensures told { IfOk result (λ finding.
-            finding ≡ told (tapped now numbers from to message.now) self.old) }
+            finding ≡ told (tapped now answer_ms numbers from to message.now) self.old) }
         ensures after { OnOk result
-            (self.new ≡ book_after (tapped now numbers from to message.now) self.old) }
+            (self.new ≡ book_after (tapped now answer_ms numbers from to message.now) self.old) }
         ensures grows { OnErr result
-            (book_after (tapped now numbers from to message.now) self.old ≢ self.old) }
+            (book_after (tapped now answer_ms numbers from to message.now) self.old ≢ self.old) }
         ensures unchanged { OnErr result (self.new ≡ self.old) }
     {
         match message.header.kind {
             MessageType::Request => {
                 let call = AuditedCall::asked(from, to, &message.header);
-                let opened = opened(&self.rules, now, numbers, message.payload);
+                let opened = opened(answer_ms, now, numbers, message.payload);
                 on_request(&mut self.calls, &self.rules, &mut self.full, call, opened)
             }
             MessageType::Response | MessageType::Error => {
                 let call = AuditedCall::answered(from, to, &message.header);
-                on_answer(&mut self.calls, &self.rules, self.full, call, now)
+                on_answer(
+                    &mut self.calls,
+                    &self.rules,
+                    answer_ms,
+                    self.full,
+                    call,
+                    now,
+                )
             }
             _ => Ok(None),
         }
@@ -140,13 +148,13 @@ impl CallBook {
 }
 
 /// A call as its REQUEST opens it.
-fn opened(rules: &CallRules, now: Moment, numbers: Numbers, payload: &[u8]) -> OpenCall
-    ensures { result ≡ open_with rules.now now numbers payload.now }
+fn opened(answer_ms: u32, now: Moment, numbers: Numbers, payload: &[u8]) -> OpenCall
+    ensures { result ≡ open_with answer_ms now numbers payload.now }
 {
     OpenCall {
         numbers,
         since: now.as_millis(),
-        until: now.as_millis() + u64::from(rules.answer_ms),
+        until: now.as_millis() + u64::from(answer_ms),
         excerpt: Excerpt::of(payload),
     }
 }

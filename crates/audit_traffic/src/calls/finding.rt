@@ -8,8 +8,6 @@ use someip_tables::hashed::Numbers;
 pub struct CallRules {
     /// How many calls are known at most.
     pub limit: usize,
-    /// How many milliseconds an answer may take.
-    pub answer_ms: u32,
     /// The moment at which the recording begins.
     pub begins: Moment,
 }

@@ -46,25 +46,25 @@ pub fn a_book_stands_for_its_messages()
 /// but REQUESTs that say the same, before its deadline. So a call that is told as unanswered had no
 /// answer before its deadline, and its key was not used for anything else.
 pub fn an_open_call_had_no_answer()
-    ensures { (rules : CallRules) (call : AuditedCall) (open_call : OpenCall) (past : List Tapped)
-        → (known_of rules call past ≡ Some (Open open_call)) ↔ IsOpenBy rules call open_call past }
+    ensures { (call : AuditedCall) (open_call : OpenCall) (past : List Tapped)
+        → (known_of call past ≡ Some (Open open_call)) ↔ IsOpenBy call open_call past }
 {}
 
 /// A call stands answered exactly where its first answer is among the messages and nothing came about
 /// it since but more answers, for as long as an answer may take.
 pub fn an_answered_call_had_its_first_answer()
-    ensures { (rules : CallRules) (call : AuditedCall) (until : ℕ) (past : List Tapped)
-        → (known_of rules call past ≡ Some (Answered until)) ↔ IsAnsweredBy rules call until past }
+    ensures { (call : AuditedCall) (until : ℕ) (past : List Tapped)
+        → (known_of call past ≡ Some (Answered until)) ↔ IsAnsweredBy call until past }
 {}
 
 /// What is told of a message after others, kind by kind.
 pub fn each_finding_has_its_reason()
     ensures reused { (rules : CallRules) (message : Tapped) (past : List Tapped)
-        → (told_after rules message past ≡ Some KeyReused) ↔ IsReuse rules message past }
+        → (told_after rules message past ≡ Some KeyReused) ↔ IsReuse message past }
     ensures late { (rules : CallRules) (message : Tapped) (past : List Tapped) (after : ℕ)
-        → (told_after rules message past ≡ Some (Late after)) ↔ IsLate rules after message past }
+        → (told_after rules message past ≡ Some (Late after)) ↔ IsLate after message past }
     ensures repeated { (rules : CallRules) (message : Tapped) (past : List Tapped)
-        → (told_after rules message past ≡ Some Repeated) ↔ IsRepeat rules message past }
+        → (told_after rules message past ≡ Some Repeated) ↔ IsRepeat message past }
     ensures unasked { (rules : CallRules) (message : Tapped) (past : List Tapped)
         → (told_after rules message past ≡ Some Unasked) ↔ IsUnasked rules message past }
 {}

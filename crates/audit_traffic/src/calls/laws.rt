@@ -20,10 +20,10 @@ ghost use Rattle.audit_traffic.specs.calls.Scenes.{request_at, request_without_s
 pub fn calls_are_overdue_by_example()
     ensures in_time { told_after rules (response_at 6999) (request_at 5000 [] ∷ []) ≡ None }
     ensures an_error { told_after rules (error_at 6999) (request_at 5000 [] ∷ []) ≡ None }
-    ensures waits { known_at 6999 (known_of rules call_5 (request_at 5000 [] ∷ []))
-        ≡ Some (Open (opened rules (request_at 5000 []))) }
-    ensures overdue { known_at 7000 (known_of rules call_5 (request_at 5000 [] ∷ [])) ≡ Some (Overdue 5000) }
-    ensures answered { known_at 7000 (known_of rules call_5 (response_at 6999 ∷ request_at 5000 [] ∷ []))
+    ensures waits { known_at 6999 (known_of call_5 (request_at 5000 [] ∷ []))
+        ≡ Some (Open (opened (request_at 5000 []))) }
+    ensures overdue { known_at 7000 (known_of call_5 (request_at 5000 [] ∷ [])) ≡ Some (Overdue 5000) }
+    ensures answered { known_at 7000 (known_of call_5 (response_at 6999 ∷ request_at 5000 [] ∷ []))
         ≡ Some (Answered 8999) }
 {}
 
@@ -85,11 +85,11 @@ pub fn reused_keys_by_example()
     ensures answered { told_after rules (request_at 5500 (2 ∷ []))
         (response_at 5400 ∷ request_at 5000 (1 ∷ []) ∷ []) ≡ None }
     ensures deadline_of_the_first { known_at 7000
-        (known_of rules call_5 (request_at 5500 (1 ∷ []) ∷ request_at 5000 (1 ∷ []) ∷ []))
+        (known_of call_5 (request_at 5500 (1 ∷ []) ∷ request_at 5000 (1 ∷ []) ∷ []))
         ≡ Some (Overdue 5000) }
     ensures deadline_of_the_new_one { known_at 7000
-        (known_of rules call_5 (request_at 5500 (2 ∷ []) ∷ request_at 5000 (1 ∷ []) ∷ []))
-        ≡ Some (Open (opened rules (request_at 5500 (2 ∷ [])))) }
+        (known_of call_5 (request_at 5500 (2 ∷ []) ∷ request_at 5000 (1 ∷ []) ∷ []))
+        ≡ Some (Open (opened (request_at 5500 (2 ∷ [])))) }
 {}
 
 /// Examples: of a payload its length counts, and its first 64 bytes.

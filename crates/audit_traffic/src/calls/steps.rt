@@ -96,24 +96,25 @@ fn judge_request(
 pub(crate) fn on_answer(
     calls: &mut CallTable,
     rules: &CallRules,
+    answer_ms: u32,
     full: bool,
     call: AuditedCall,
     now: Moment,
 ) -> Result<Option<CallFinding>, AllocError>
     ensures told { IfOk result (λ finding. finding ≡ told_of_answer
-        (may_be_asked rules.now full now) now (known now calls.old call)) }
+        (may_be_asked rules.now answer_ms full now) now (known now calls.old call)) }
     ensures after { OnOk result (calls.new ≡ with_known call
-        (known_by_answer (now + rules.now.answer_ms) (known now calls.old call))
+        (known_by_answer (now + answer_ms) (known now calls.old call))
         calls.old) }
     ensures grows { OnErr result (with_known call
-        (known_by_answer (now + rules.now.answer_ms) (known now calls.old call))
+        (known_by_answer (now + answer_ms) (known now calls.old call))
         calls.old ≢ calls.old) }
     ensures unchanged { OnErr result (calls.new ≡ calls.old) }
 {
     let held = calls.get(&call);
     let before = known_at(now.as_millis(), held);
-    let told = told_of_answer(before, may_be_asked(rules, full, now), now);
-    if let Some(known) = known_by_answer(before, rules, now) {
+    let told = told_of_answer(before, may_be_asked(rules, answer_ms, full, now), now);
+    if let Some(known) = known_by_answer(before, answer_ms, now) {
         calls.insert(call, known)?;
     }
     Ok(told)
@@ -135,12 +136,12 @@ fn told_of_answer(known: Option<Known>, may_be_asked: bool, now: Moment) -> Opti
 }
 
 /// What is known of its call then.
-fn known_by_answer(known: Option<Known>, rules: &CallRules, now: Moment) -> Option<Known>
-    ensures { result ≡ known_by_answer (now + rules.now.answer_ms) known }
+fn known_by_answer(known: Option<Known>, answer_ms: u32, now: Moment) -> Option<Known>
+    ensures { result ≡ known_by_answer (now + answer_ms) known }
 {
     match known? {
         Known::Open(_) | Known::Overdue(_) => Some(Known::Answered(
-            now.as_millis() + u64::from(rules.answer_ms),
+            now.as_millis() + u64::from(answer_ms),
         )),
         Known::Answered(until) => Some(Known::Answered(until)),
     }
@@ -148,10 +149,10 @@ fn known_by_answer(known: Option<Known>, rules: &CallRules, now: Moment) -> Opti
 
 /// Whether a call of which nothing is known may have been asked: before the recording began, or with no
 /// room for it.
-fn may_be_asked(rules: &CallRules, full: bool, now: Moment) -> bool
-    ensures { result ≡ may_be_asked rules.now full now }
+fn may_be_asked(rules: &CallRules, answer_ms: u32, full: bool, now: Moment) -> bool
+    ensures { result ≡ may_be_asked rules.now answer_ms full now }
 {
-    now.as_millis() < rules.begins.as_millis() + u64::from(rules.answer_ms) || full
+    now.as_millis() < rules.begins.as_millis() + u64::from(answer_ms) || full
 }
 
 /// The open call whose deadline comes first, if it has come. Makes room for the calls of a datagram.

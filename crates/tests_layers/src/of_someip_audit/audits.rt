@@ -1,5 +1,6 @@
 //! Datagrams of a recording, over all books.
 use crate::of_audit_sd::places::{at, endpoint, numbered};
+use audit_rules::Rules;
 use audit_traffic::calls::CallFinding;
 use audit_traffic::segments::SegmentRules;
 use audit_traffic::sequence;
@@ -461,7 +462,7 @@ fn first_wrong(alloc: Global, ports: Option<&[u16]>, limit: usize, rows: &[Row])
         ports: ports.unwrap_or(&[]),
         learns: ports.is_none(),
     };
-    match Audit::begin(alloc, &rules(limit), &watch, at(50)) {
+    match Audit::begin(alloc, &rules(limit), &Rules::none(alloc), &watch, at(50)) {
         Ok(mut audit) => first_wrong_in(alloc, &mut audit, rows),
         Err(_) => Some(0),
     }

@@ -13,4 +13,4 @@ returns-in_err-insert-clause-grows c =
     let answered : c.known_by_answer.result ≡ Some c.in-Some.known = search rules in
     on_err c.from_residual.result
     (changed_some calls c.args.call c.in-Some.known _
-    (ap (known_by_answer (c.args.now + c.args.rules.now.answer_ms)) (sym before) ∙ sym c.known_by_answer.ensures ∙ answered) c.in_err-insert.ensures.grows)
+    (ap (known_by_answer (c.args.now + c.args.answer_ms)) (sym before) ∙ sym c.known_by_answer.ensures ∙ answered) c.in_err-insert.ensures.grows)

@@ -5,27 +5,27 @@ use Rattle.someip_audit.proofs.books.Books.due.Goals as goal
 
 pub returns-in-Some-clause-due : goal.returns-in-Some-clause-due
 returns-in-Some-clause-due g c =
-    rw (← c.self.view_is) (call_is_due (record { calls = c.self.inside.calls; segments = c.self.inside.segments; offers = c.self.inside.offers; servers = c.self.inside.servers; subscriptions = c.self.inside.subscriptions; sessions = c.self.inside.sessions; receivers = c.self.inside.receivers; events = c.self.inside.events; ways = c.self.inside.ways; watched = c.self.inside.watched; is_offered = c.self.inside.is_offered }) c.args.now c.next_due-segments.result c.next_due-offers.result c.next_due-subscriptions.result c.next_due-lost.result c.next_due-segments.ensures c.next_due-offers.ensures c.next_due-subscriptions.ensures c.next_due-lost.ensures
+    rw (← c.self.view_is) (call_is_due (record { times = c.self.inside.times; calls = c.self.inside.calls; segments = c.self.inside.segments; offers = c.self.inside.offers; servers = c.self.inside.servers; subscriptions = c.self.inside.subscriptions; sessions = c.self.inside.sessions; receivers = c.self.inside.receivers; events = c.self.inside.events; ways = c.self.inside.ways; watched = c.self.inside.watched; is_offered = c.self.inside.is_offered }) c.args.now c.next_due-segments.result c.next_due-offers.result c.next_due-subscriptions.result c.next_due-lost.result c.next_due-segments.ensures c.next_due-offers.ensures c.next_due-subscriptions.ensures c.next_due-lost.ensures
     c.earlier-others.result c.earlier-rest.result c.earlier-next.result c.soonest-at.result c.earlier-others.ensures c.earlier-rest.ensures c.earlier-next.ensures c.soonest-at.ensures
     c.in-Some.call c.in-Some.ensures.open c.in-Some.ensures.passed)
 
 pub returns-in-Some-clause-first : goal.returns-in-Some-clause-first
 returns-in-Some-clause-first g c =
-    rw (← c.self.view_is) (call_first (record { calls = c.self.inside.calls; segments = c.self.inside.segments; offers = c.self.inside.offers; servers = c.self.inside.servers; subscriptions = c.self.inside.subscriptions; sessions = c.self.inside.sessions; receivers = c.self.inside.receivers; events = c.self.inside.events; ways = c.self.inside.ways; watched = c.self.inside.watched; is_offered = c.self.inside.is_offered }) c.args.now c.next_due-segments.result c.next_due-offers.result c.next_due-subscriptions.result c.next_due-lost.result c.next_due-segments.ensures c.next_due-offers.ensures c.next_due-subscriptions.ensures c.next_due-lost.ensures
+    rw (← c.self.view_is) (call_first (record { times = c.self.inside.times; calls = c.self.inside.calls; segments = c.self.inside.segments; offers = c.self.inside.offers; servers = c.self.inside.servers; subscriptions = c.self.inside.subscriptions; sessions = c.self.inside.sessions; receivers = c.self.inside.receivers; events = c.self.inside.events; ways = c.self.inside.ways; watched = c.self.inside.watched; is_offered = c.self.inside.is_offered }) c.args.now c.next_due-segments.result c.next_due-offers.result c.next_due-subscriptions.result c.next_due-lost.result c.next_due-segments.ensures c.next_due-offers.ensures c.next_due-subscriptions.ensures c.next_due-lost.ensures
     c.earlier-others.result c.earlier-rest.result c.earlier-next.result c.soonest-at.result c.earlier-others.ensures c.earlier-rest.ensures c.earlier-next.ensures c.soonest-at.ensures
     c.in-Some.call c.in-Some.ensures.passed c.in-Some.ensures.first)
 
 pub returns-then-not-is_at-clause-none : goal.returns-then-not-is_at-clause-none
 returns-then-not-is_at-clause-none g c =
     let no_next : is_awaited c.soonest-at.result c.earlier-next.result ≡ false = search rules in
-    rw (← c.self.view_is) (none_first (record { calls = c.self.inside.calls; segments = c.self.inside.segments; offers = c.self.inside.offers; servers = c.self.inside.servers; subscriptions = c.self.inside.subscriptions; sessions = c.self.inside.sessions; receivers = c.self.inside.receivers; events = c.self.inside.events; ways = c.self.inside.ways; watched = c.self.inside.watched; is_offered = c.self.inside.is_offered }) c.args.now c.next_due-segments.result c.next_due-offers.result c.next_due-subscriptions.result c.next_due-lost.result c.next_due-segments.ensures c.next_due-offers.ensures c.next_due-subscriptions.ensures c.next_due-lost.ensures
+    rw (← c.self.view_is) (none_first (record { times = c.self.inside.times; calls = c.self.inside.calls; segments = c.self.inside.segments; offers = c.self.inside.offers; servers = c.self.inside.servers; subscriptions = c.self.inside.subscriptions; sessions = c.self.inside.sessions; receivers = c.self.inside.receivers; events = c.self.inside.events; ways = c.self.inside.ways; watched = c.self.inside.watched; is_offered = c.self.inside.is_offered }) c.args.now c.next_due-segments.result c.next_due-offers.result c.next_due-subscriptions.result c.next_due-lost.result c.next_due-segments.ensures c.next_due-offers.ensures c.next_due-subscriptions.ensures c.next_due-lost.ensures
     c.earlier-others.result c.earlier-rest.result c.earlier-next.result c.soonest-at.result c.earlier-others.ensures c.earlier-rest.ensures c.earlier-next.ensures c.soonest-at.ensures
     c.in_default.ensures.none no_next)
 
 pub returns-then-not-is_at-clause-after : goal.returns-then-not-is_at-clause-after
 returns-then-not-is_at-clause-after g c =
     let no_next : is_awaited c.soonest-at.result c.earlier-next.result ≡ false = search rules in
-    rw (← c.self.view_is) (none_after (record { calls = c.self.inside.calls; segments = c.self.inside.segments; offers = c.self.inside.offers; servers = c.self.inside.servers; subscriptions = c.self.inside.subscriptions; sessions = c.self.inside.sessions; receivers = c.self.inside.receivers; events = c.self.inside.events; ways = c.self.inside.ways; watched = c.self.inside.watched; is_offered = c.self.inside.is_offered }) c.args.now c.next_due-segments.result c.next_due-offers.result c.next_due-subscriptions.result c.next_due-lost.result c.next_due-segments.ensures c.next_due-offers.ensures c.next_due-subscriptions.ensures c.next_due-lost.ensures
+    rw (← c.self.view_is) (none_after (record { times = c.self.inside.times; calls = c.self.inside.calls; segments = c.self.inside.segments; offers = c.self.inside.offers; servers = c.self.inside.servers; subscriptions = c.self.inside.subscriptions; sessions = c.self.inside.sessions; receivers = c.self.inside.receivers; events = c.self.inside.events; ways = c.self.inside.ways; watched = c.self.inside.watched; is_offered = c.self.inside.is_offered }) c.args.now c.next_due-segments.result c.next_due-offers.result c.next_due-subscriptions.result c.next_due-lost.result c.next_due-segments.ensures c.next_due-offers.ensures c.next_due-subscriptions.ensures c.next_due-lost.ensures
     c.earlier-others.result c.earlier-rest.result c.earlier-next.result c.soonest-at.result c.earlier-others.ensures c.earlier-rest.ensures c.earlier-next.ensures c.soonest-at.ensures
     c.in_default.ensures.none no_next c.due.new.self c.in_default.ensures.after)
 
@@ -33,7 +33,7 @@ pub returns-in_err-due-clause-none : goal.returns-in_err-due-clause-none
 returns-in_err-due-clause-none g c =
     let there : is_awaited c.soonest-at.result c.earlier-next.result ≡ true = search rules in
     let first_is : is_awaited c.soonest-at.result c.next_due-segments.result ≡ true = search rules in
-    absurd (no_missing (record { calls = c.self.inside.calls; segments = c.self.inside.segments; offers = c.self.inside.offers; servers = c.self.inside.servers; subscriptions = c.self.inside.subscriptions; sessions = c.self.inside.sessions; receivers = c.self.inside.receivers; events = c.self.inside.events; ways = c.self.inside.ways; watched = c.self.inside.watched; is_offered = c.self.inside.is_offered }) c.args.now c.next_due-segments.result c.next_due-offers.result c.next_due-subscriptions.result c.next_due-lost.result c.next_due-segments.ensures c.next_due-offers.ensures c.next_due-subscriptions.ensures c.next_due-lost.ensures
+    absurd (no_missing (record { times = c.self.inside.times; calls = c.self.inside.calls; segments = c.self.inside.segments; offers = c.self.inside.offers; servers = c.self.inside.servers; subscriptions = c.self.inside.subscriptions; sessions = c.self.inside.sessions; receivers = c.self.inside.receivers; events = c.self.inside.events; ways = c.self.inside.ways; watched = c.self.inside.watched; is_offered = c.self.inside.is_offered }) c.args.now c.next_due-segments.result c.next_due-offers.result c.next_due-subscriptions.result c.next_due-lost.result c.next_due-segments.ensures c.next_due-offers.ensures c.next_due-subscriptions.ensures c.next_due-lost.ensures
     c.earlier-others.result c.earlier-rest.result c.earlier-next.result c.soonest-at.result c.earlier-others.ensures c.earlier-rest.ensures c.earlier-next.ensures c.soonest-at.ensures
     c.in_default.ensures.none there first_is c.in_err-due.ensures.none)
 
@@ -41,7 +41,7 @@ pub returns-in_err-due-clause-after : goal.returns-in_err-due-clause-after
 returns-in_err-due-clause-after g c =
     let there : is_awaited c.soonest-at.result c.earlier-next.result ≡ true = search rules in
     let first_is : is_awaited c.soonest-at.result c.next_due-segments.result ≡ true = search rules in
-    absurd (no_missing (record { calls = c.self.inside.calls; segments = c.self.inside.segments; offers = c.self.inside.offers; servers = c.self.inside.servers; subscriptions = c.self.inside.subscriptions; sessions = c.self.inside.sessions; receivers = c.self.inside.receivers; events = c.self.inside.events; ways = c.self.inside.ways; watched = c.self.inside.watched; is_offered = c.self.inside.is_offered }) c.args.now c.next_due-segments.result c.next_due-offers.result c.next_due-subscriptions.result c.next_due-lost.result c.next_due-segments.ensures c.next_due-offers.ensures c.next_due-subscriptions.ensures c.next_due-lost.ensures
+    absurd (no_missing (record { times = c.self.inside.times; calls = c.self.inside.calls; segments = c.self.inside.segments; offers = c.self.inside.offers; servers = c.self.inside.servers; subscriptions = c.self.inside.subscriptions; sessions = c.self.inside.sessions; receivers = c.self.inside.receivers; events = c.self.inside.events; ways = c.self.inside.ways; watched = c.self.inside.watched; is_offered = c.self.inside.is_offered }) c.args.now c.next_due-segments.result c.next_due-offers.result c.next_due-subscriptions.result c.next_due-lost.result c.next_due-segments.ensures c.next_due-offers.ensures c.next_due-subscriptions.ensures c.next_due-lost.ensures
     c.earlier-others.result c.earlier-rest.result c.earlier-next.result c.soonest-at.result c.earlier-others.ensures c.earlier-rest.ensures c.earlier-next.ensures c.soonest-at.ensures
     c.in_default.ensures.none there first_is c.in_err-due.ensures.none)
 
@@ -49,7 +49,7 @@ pub returns-then-is_at-clause-due : goal.returns-then-is_at-clause-due
 returns-then-is_at-clause-due g c =
     let there : is_awaited c.soonest-at.result c.earlier-next.result ≡ true = search rules in
     let first_is : is_awaited c.soonest-at.result c.next_due-segments.result ≡ true = search rules in
-    rw (← c.self.view_is) (missing_is_due (record { calls = c.self.inside.calls; segments = c.self.inside.segments; offers = c.self.inside.offers; servers = c.self.inside.servers; subscriptions = c.self.inside.subscriptions; sessions = c.self.inside.sessions; receivers = c.self.inside.receivers; events = c.self.inside.events; ways = c.self.inside.ways; watched = c.self.inside.watched; is_offered = c.self.inside.is_offered }) c.args.now c.next_due-segments.result c.next_due-offers.result c.next_due-subscriptions.result c.next_due-lost.result c.next_due-segments.ensures c.next_due-offers.ensures c.next_due-subscriptions.ensures c.next_due-lost.ensures
+    rw (← c.self.view_is) (missing_is_due (record { times = c.self.inside.times; calls = c.self.inside.calls; segments = c.self.inside.segments; offers = c.self.inside.offers; servers = c.self.inside.servers; subscriptions = c.self.inside.subscriptions; sessions = c.self.inside.sessions; receivers = c.self.inside.receivers; events = c.self.inside.events; ways = c.self.inside.ways; watched = c.self.inside.watched; is_offered = c.self.inside.is_offered }) c.args.now c.next_due-segments.result c.next_due-offers.result c.next_due-subscriptions.result c.next_due-lost.result c.next_due-segments.ensures c.next_due-offers.ensures c.next_due-subscriptions.ensures c.next_due-lost.ensures
     c.earlier-others.result c.earlier-rest.result c.earlier-next.result c.soonest-at.result c.earlier-others.ensures c.earlier-rest.ensures c.earlier-next.ensures c.soonest-at.ensures
     c.in_default.ensures.none there first_is c.in_ok-due.field-0 c.in_ok-due.ensures.waits c.in_ok-due.ensures.first)
 
@@ -57,7 +57,7 @@ pub returns-then-is_at-clause-first : goal.returns-then-is_at-clause-first
 returns-then-is_at-clause-first g c =
     let there : is_awaited c.soonest-at.result c.earlier-next.result ≡ true = search rules in
     let first_is : is_awaited c.soonest-at.result c.next_due-segments.result ≡ true = search rules in
-    rw (← c.self.view_is) (missing_first (record { calls = c.self.inside.calls; segments = c.self.inside.segments; offers = c.self.inside.offers; servers = c.self.inside.servers; subscriptions = c.self.inside.subscriptions; sessions = c.self.inside.sessions; receivers = c.self.inside.receivers; events = c.self.inside.events; ways = c.self.inside.ways; watched = c.self.inside.watched; is_offered = c.self.inside.is_offered }) c.args.now c.next_due-segments.result c.next_due-offers.result c.next_due-subscriptions.result c.next_due-lost.result c.next_due-segments.ensures c.next_due-offers.ensures c.next_due-subscriptions.ensures c.next_due-lost.ensures
+    rw (← c.self.view_is) (missing_first (record { times = c.self.inside.times; calls = c.self.inside.calls; segments = c.self.inside.segments; offers = c.self.inside.offers; servers = c.self.inside.servers; subscriptions = c.self.inside.subscriptions; sessions = c.self.inside.sessions; receivers = c.self.inside.receivers; events = c.self.inside.events; ways = c.self.inside.ways; watched = c.self.inside.watched; is_offered = c.self.inside.is_offered }) c.args.now c.next_due-segments.result c.next_due-offers.result c.next_due-subscriptions.result c.next_due-lost.result c.next_due-segments.ensures c.next_due-offers.ensures c.next_due-subscriptions.ensures c.next_due-lost.ensures
     c.earlier-others.result c.earlier-rest.result c.earlier-next.result c.soonest-at.result c.earlier-others.ensures c.earlier-rest.ensures c.earlier-next.ensures c.soonest-at.ensures
     c.in_default.ensures.none there first_is c.in_ok-due.field-0 c.in_ok-due.ensures.waits c.in_ok-due.ensures.first)
 
@@ -65,7 +65,7 @@ pub returns-then-is_at-clause-after : goal.returns-then-is_at-clause-after
 returns-then-is_at-clause-after g c =
     let there : is_awaited c.soonest-at.result c.earlier-next.result ≡ true = search rules in
     let first_is : is_awaited c.soonest-at.result c.next_due-segments.result ≡ true = search rules in
-    rw (← c.self.view_is) (missing_after (record { calls = c.self.inside.calls; segments = c.self.inside.segments; offers = c.self.inside.offers; servers = c.self.inside.servers; subscriptions = c.self.inside.subscriptions; sessions = c.self.inside.sessions; receivers = c.self.inside.receivers; events = c.self.inside.events; ways = c.self.inside.ways; watched = c.self.inside.watched; is_offered = c.self.inside.is_offered }) c.args.now c.next_due-segments.result c.next_due-offers.result c.next_due-subscriptions.result c.next_due-lost.result c.next_due-segments.ensures c.next_due-offers.ensures c.next_due-subscriptions.ensures c.next_due-lost.ensures
+    rw (← c.self.view_is) (missing_after (record { times = c.self.inside.times; calls = c.self.inside.calls; segments = c.self.inside.segments; offers = c.self.inside.offers; servers = c.self.inside.servers; subscriptions = c.self.inside.subscriptions; sessions = c.self.inside.sessions; receivers = c.self.inside.receivers; events = c.self.inside.events; ways = c.self.inside.ways; watched = c.self.inside.watched; is_offered = c.self.inside.is_offered }) c.args.now c.next_due-segments.result c.next_due-offers.result c.next_due-subscriptions.result c.next_due-lost.result c.next_due-segments.ensures c.next_due-offers.ensures c.next_due-subscriptions.ensures c.next_due-lost.ensures
     c.earlier-others.result c.earlier-rest.result c.earlier-next.result c.soonest-at.result c.earlier-others.ensures c.earlier-rest.ensures c.earlier-next.ensures c.soonest-at.ensures
     c.in_default.ensures.none there first_is c.in_ok-due.field-0 c.in_ok-due.ensures.waits c.in_ok-due.ensures.first c.due.new.self c.due-then-is_at.new.self c.in_default.ensures.after c.in_ok-due.ensures.after)
 
@@ -74,7 +74,7 @@ returns-in_err-due-2-clause-none g c =
     let there : is_awaited c.soonest-at.result c.earlier-next.result ≡ true = search rules in
     let not_seg : is_awaited c.soonest-at.result c.next_due-segments.result ≡ false = search rules in
     let first_is : is_awaited c.soonest-at.result c.next_due-offers.result ≡ true = search rules in
-    absurd (no_expired (record { calls = c.self.inside.calls; segments = c.self.inside.segments; offers = c.self.inside.offers; servers = c.self.inside.servers; subscriptions = c.self.inside.subscriptions; sessions = c.self.inside.sessions; receivers = c.self.inside.receivers; events = c.self.inside.events; ways = c.self.inside.ways; watched = c.self.inside.watched; is_offered = c.self.inside.is_offered }) c.args.now c.next_due-segments.result c.next_due-offers.result c.next_due-subscriptions.result c.next_due-lost.result c.next_due-segments.ensures c.next_due-offers.ensures c.next_due-subscriptions.ensures c.next_due-lost.ensures
+    absurd (no_expired (record { times = c.self.inside.times; calls = c.self.inside.calls; segments = c.self.inside.segments; offers = c.self.inside.offers; servers = c.self.inside.servers; subscriptions = c.self.inside.subscriptions; sessions = c.self.inside.sessions; receivers = c.self.inside.receivers; events = c.self.inside.events; ways = c.self.inside.ways; watched = c.self.inside.watched; is_offered = c.self.inside.is_offered }) c.args.now c.next_due-segments.result c.next_due-offers.result c.next_due-subscriptions.result c.next_due-lost.result c.next_due-segments.ensures c.next_due-offers.ensures c.next_due-subscriptions.ensures c.next_due-lost.ensures
     c.earlier-others.result c.earlier-rest.result c.earlier-next.result c.soonest-at.result c.earlier-others.ensures c.earlier-rest.ensures c.earlier-next.ensures c.soonest-at.ensures
     c.in_default.ensures.none there not_seg first_is c.in_err-due-2.ensures.told)
 
@@ -83,7 +83,7 @@ returns-in_err-due-2-clause-after g c =
     let there : is_awaited c.soonest-at.result c.earlier-next.result ≡ true = search rules in
     let not_seg : is_awaited c.soonest-at.result c.next_due-segments.result ≡ false = search rules in
     let first_is : is_awaited c.soonest-at.result c.next_due-offers.result ≡ true = search rules in
-    absurd (no_expired (record { calls = c.self.inside.calls; segments = c.self.inside.segments; offers = c.self.inside.offers; servers = c.self.inside.servers; subscriptions = c.self.inside.subscriptions; sessions = c.self.inside.sessions; receivers = c.self.inside.receivers; events = c.self.inside.events; ways = c.self.inside.ways; watched = c.self.inside.watched; is_offered = c.self.inside.is_offered }) c.args.now c.next_due-segments.result c.next_due-offers.result c.next_due-subscriptions.result c.next_due-lost.result c.next_due-segments.ensures c.next_due-offers.ensures c.next_due-subscriptions.ensures c.next_due-lost.ensures
+    absurd (no_expired (record { times = c.self.inside.times; calls = c.self.inside.calls; segments = c.self.inside.segments; offers = c.self.inside.offers; servers = c.self.inside.servers; subscriptions = c.self.inside.subscriptions; sessions = c.self.inside.sessions; receivers = c.self.inside.receivers; events = c.self.inside.events; ways = c.self.inside.ways; watched = c.self.inside.watched; is_offered = c.self.inside.is_offered }) c.args.now c.next_due-segments.result c.next_due-offers.result c.next_due-subscriptions.result c.next_due-lost.result c.next_due-segments.ensures c.next_due-offers.ensures c.next_due-subscriptions.ensures c.next_due-lost.ensures
     c.earlier-others.result c.earlier-rest.result c.earlier-next.result c.soonest-at.result c.earlier-others.ensures c.earlier-rest.ensures c.earlier-next.ensures c.soonest-at.ensures
     c.in_default.ensures.none there not_seg first_is c.in_err-due-2.ensures.told)
 
@@ -92,7 +92,7 @@ returns-then-is_at-2-clause-due g c =
     let there : is_awaited c.soonest-at.result c.earlier-next.result ≡ true = search rules in
     let not_seg : is_awaited c.soonest-at.result c.next_due-segments.result ≡ false = search rules in
     let first_is : is_awaited c.soonest-at.result c.next_due-offers.result ≡ true = search rules in
-    rw (← c.self.view_is) (expired_is_due (record { calls = c.self.inside.calls; segments = c.self.inside.segments; offers = c.self.inside.offers; servers = c.self.inside.servers; subscriptions = c.self.inside.subscriptions; sessions = c.self.inside.sessions; receivers = c.self.inside.receivers; events = c.self.inside.events; ways = c.self.inside.ways; watched = c.self.inside.watched; is_offered = c.self.inside.is_offered }) c.args.now c.next_due-segments.result c.next_due-offers.result c.next_due-subscriptions.result c.next_due-lost.result c.next_due-segments.ensures c.next_due-offers.ensures c.next_due-subscriptions.ensures c.next_due-lost.ensures
+    rw (← c.self.view_is) (expired_is_due (record { times = c.self.inside.times; calls = c.self.inside.calls; segments = c.self.inside.segments; offers = c.self.inside.offers; servers = c.self.inside.servers; subscriptions = c.self.inside.subscriptions; sessions = c.self.inside.sessions; receivers = c.self.inside.receivers; events = c.self.inside.events; ways = c.self.inside.ways; watched = c.self.inside.watched; is_offered = c.self.inside.is_offered }) c.args.now c.next_due-segments.result c.next_due-offers.result c.next_due-subscriptions.result c.next_due-lost.result c.next_due-segments.ensures c.next_due-offers.ensures c.next_due-subscriptions.ensures c.next_due-lost.ensures
     c.earlier-others.result c.earlier-rest.result c.earlier-next.result c.soonest-at.result c.earlier-others.ensures c.earlier-rest.ensures c.earlier-next.ensures c.soonest-at.ensures
     c.in_default.ensures.none there not_seg first_is c.in_ok-due-2.field-0 c.in_ok-due-2.ensures.told)
 
@@ -101,7 +101,7 @@ returns-then-is_at-2-clause-first g c =
     let there : is_awaited c.soonest-at.result c.earlier-next.result ≡ true = search rules in
     let not_seg : is_awaited c.soonest-at.result c.next_due-segments.result ≡ false = search rules in
     let first_is : is_awaited c.soonest-at.result c.next_due-offers.result ≡ true = search rules in
-    rw (← c.self.view_is) (expired_first (record { calls = c.self.inside.calls; segments = c.self.inside.segments; offers = c.self.inside.offers; servers = c.self.inside.servers; subscriptions = c.self.inside.subscriptions; sessions = c.self.inside.sessions; receivers = c.self.inside.receivers; events = c.self.inside.events; ways = c.self.inside.ways; watched = c.self.inside.watched; is_offered = c.self.inside.is_offered }) c.args.now c.next_due-segments.result c.next_due-offers.result c.next_due-subscriptions.result c.next_due-lost.result c.next_due-segments.ensures c.next_due-offers.ensures c.next_due-subscriptions.ensures c.next_due-lost.ensures
+    rw (← c.self.view_is) (expired_first (record { times = c.self.inside.times; calls = c.self.inside.calls; segments = c.self.inside.segments; offers = c.self.inside.offers; servers = c.self.inside.servers; subscriptions = c.self.inside.subscriptions; sessions = c.self.inside.sessions; receivers = c.self.inside.receivers; events = c.self.inside.events; ways = c.self.inside.ways; watched = c.self.inside.watched; is_offered = c.self.inside.is_offered }) c.args.now c.next_due-segments.result c.next_due-offers.result c.next_due-subscriptions.result c.next_due-lost.result c.next_due-segments.ensures c.next_due-offers.ensures c.next_due-subscriptions.ensures c.next_due-lost.ensures
     c.earlier-others.result c.earlier-rest.result c.earlier-next.result c.soonest-at.result c.earlier-others.ensures c.earlier-rest.ensures c.earlier-next.ensures c.soonest-at.ensures
     c.in_default.ensures.none there not_seg first_is c.in_ok-due-2.field-0 c.in_ok-due-2.ensures.told)
 
@@ -110,7 +110,7 @@ returns-then-is_at-2-clause-after g c =
     let there : is_awaited c.soonest-at.result c.earlier-next.result ≡ true = search rules in
     let not_seg : is_awaited c.soonest-at.result c.next_due-segments.result ≡ false = search rules in
     let first_is : is_awaited c.soonest-at.result c.next_due-offers.result ≡ true = search rules in
-    rw (← c.self.view_is) (expired_after (record { calls = c.self.inside.calls; segments = c.self.inside.segments; offers = c.self.inside.offers; servers = c.self.inside.servers; subscriptions = c.self.inside.subscriptions; sessions = c.self.inside.sessions; receivers = c.self.inside.receivers; events = c.self.inside.events; ways = c.self.inside.ways; watched = c.self.inside.watched; is_offered = c.self.inside.is_offered }) c.args.now c.next_due-segments.result c.next_due-offers.result c.next_due-subscriptions.result c.next_due-lost.result c.next_due-segments.ensures c.next_due-offers.ensures c.next_due-subscriptions.ensures c.next_due-lost.ensures
+    rw (← c.self.view_is) (expired_after (record { times = c.self.inside.times; calls = c.self.inside.calls; segments = c.self.inside.segments; offers = c.self.inside.offers; servers = c.self.inside.servers; subscriptions = c.self.inside.subscriptions; sessions = c.self.inside.sessions; receivers = c.self.inside.receivers; events = c.self.inside.events; ways = c.self.inside.ways; watched = c.self.inside.watched; is_offered = c.self.inside.is_offered }) c.args.now c.next_due-segments.result c.next_due-offers.result c.next_due-subscriptions.result c.next_due-lost.result c.next_due-segments.ensures c.next_due-offers.ensures c.next_due-subscriptions.ensures c.next_due-lost.ensures
     c.earlier-others.result c.earlier-rest.result c.earlier-next.result c.soonest-at.result c.earlier-others.ensures c.earlier-rest.ensures c.earlier-next.ensures c.soonest-at.ensures
     c.in_default.ensures.none there not_seg first_is c.in_ok-due-2.field-0 c.in_ok-due-2.ensures.told c.due.new.self c.due-then-is_at-2.new.self c.in_default.ensures.after c.in_ok-due-2.ensures.after)
 
@@ -120,7 +120,7 @@ returns-in_err-due-3-clause-none g c =
     let not_seg : is_awaited c.soonest-at.result c.next_due-segments.result ≡ false = search rules in
     let not_off : is_awaited c.soonest-at.result c.next_due-offers.result ≡ false = search rules in
     let first_is : is_awaited c.soonest-at.result c.next_due-subscriptions.result ≡ true = search rules in
-    absurd (no_asked (record { calls = c.self.inside.calls; segments = c.self.inside.segments; offers = c.self.inside.offers; servers = c.self.inside.servers; subscriptions = c.self.inside.subscriptions; sessions = c.self.inside.sessions; receivers = c.self.inside.receivers; events = c.self.inside.events; ways = c.self.inside.ways; watched = c.self.inside.watched; is_offered = c.self.inside.is_offered }) c.args.now c.next_due-segments.result c.next_due-offers.result c.next_due-subscriptions.result c.next_due-lost.result c.next_due-segments.ensures c.next_due-offers.ensures c.next_due-subscriptions.ensures c.next_due-lost.ensures
+    absurd (no_asked (record { times = c.self.inside.times; calls = c.self.inside.calls; segments = c.self.inside.segments; offers = c.self.inside.offers; servers = c.self.inside.servers; subscriptions = c.self.inside.subscriptions; sessions = c.self.inside.sessions; receivers = c.self.inside.receivers; events = c.self.inside.events; ways = c.self.inside.ways; watched = c.self.inside.watched; is_offered = c.self.inside.is_offered }) c.args.now c.next_due-segments.result c.next_due-offers.result c.next_due-subscriptions.result c.next_due-lost.result c.next_due-segments.ensures c.next_due-offers.ensures c.next_due-subscriptions.ensures c.next_due-lost.ensures
     c.earlier-others.result c.earlier-rest.result c.earlier-next.result c.soonest-at.result c.earlier-others.ensures c.earlier-rest.ensures c.earlier-next.ensures c.soonest-at.ensures
     c.in_default.ensures.none there not_seg not_off first_is c.in_err-due-3.ensures.told)
 
@@ -130,7 +130,7 @@ returns-in_err-due-3-clause-after g c =
     let not_seg : is_awaited c.soonest-at.result c.next_due-segments.result ≡ false = search rules in
     let not_off : is_awaited c.soonest-at.result c.next_due-offers.result ≡ false = search rules in
     let first_is : is_awaited c.soonest-at.result c.next_due-subscriptions.result ≡ true = search rules in
-    absurd (no_asked (record { calls = c.self.inside.calls; segments = c.self.inside.segments; offers = c.self.inside.offers; servers = c.self.inside.servers; subscriptions = c.self.inside.subscriptions; sessions = c.self.inside.sessions; receivers = c.self.inside.receivers; events = c.self.inside.events; ways = c.self.inside.ways; watched = c.self.inside.watched; is_offered = c.self.inside.is_offered }) c.args.now c.next_due-segments.result c.next_due-offers.result c.next_due-subscriptions.result c.next_due-lost.result c.next_due-segments.ensures c.next_due-offers.ensures c.next_due-subscriptions.ensures c.next_due-lost.ensures
+    absurd (no_asked (record { times = c.self.inside.times; calls = c.self.inside.calls; segments = c.self.inside.segments; offers = c.self.inside.offers; servers = c.self.inside.servers; subscriptions = c.self.inside.subscriptions; sessions = c.self.inside.sessions; receivers = c.self.inside.receivers; events = c.self.inside.events; ways = c.self.inside.ways; watched = c.self.inside.watched; is_offered = c.self.inside.is_offered }) c.args.now c.next_due-segments.result c.next_due-offers.result c.next_due-subscriptions.result c.next_due-lost.result c.next_due-segments.ensures c.next_due-offers.ensures c.next_due-subscriptions.ensures c.next_due-lost.ensures
     c.earlier-others.result c.earlier-rest.result c.earlier-next.result c.soonest-at.result c.earlier-others.ensures c.earlier-rest.ensures c.earlier-next.ensures c.soonest-at.ensures
     c.in_default.ensures.none there not_seg not_off first_is c.in_err-due-3.ensures.told)
 
@@ -140,7 +140,7 @@ returns-then-is_at-3-clause-due g c =
     let not_seg : is_awaited c.soonest-at.result c.next_due-segments.result ≡ false = search rules in
     let not_off : is_awaited c.soonest-at.result c.next_due-offers.result ≡ false = search rules in
     let first_is : is_awaited c.soonest-at.result c.next_due-subscriptions.result ≡ true = search rules in
-    rw (← c.self.view_is) (asked_is_due (record { calls = c.self.inside.calls; segments = c.self.inside.segments; offers = c.self.inside.offers; servers = c.self.inside.servers; subscriptions = c.self.inside.subscriptions; sessions = c.self.inside.sessions; receivers = c.self.inside.receivers; events = c.self.inside.events; ways = c.self.inside.ways; watched = c.self.inside.watched; is_offered = c.self.inside.is_offered }) c.args.now c.next_due-segments.result c.next_due-offers.result c.next_due-subscriptions.result c.next_due-lost.result c.next_due-segments.ensures c.next_due-offers.ensures c.next_due-subscriptions.ensures c.next_due-lost.ensures
+    rw (← c.self.view_is) (asked_is_due (record { times = c.self.inside.times; calls = c.self.inside.calls; segments = c.self.inside.segments; offers = c.self.inside.offers; servers = c.self.inside.servers; subscriptions = c.self.inside.subscriptions; sessions = c.self.inside.sessions; receivers = c.self.inside.receivers; events = c.self.inside.events; ways = c.self.inside.ways; watched = c.self.inside.watched; is_offered = c.self.inside.is_offered }) c.args.now c.next_due-segments.result c.next_due-offers.result c.next_due-subscriptions.result c.next_due-lost.result c.next_due-segments.ensures c.next_due-offers.ensures c.next_due-subscriptions.ensures c.next_due-lost.ensures
     c.earlier-others.result c.earlier-rest.result c.earlier-next.result c.soonest-at.result c.earlier-others.ensures c.earlier-rest.ensures c.earlier-next.ensures c.soonest-at.ensures
     c.in_default.ensures.none there not_seg not_off first_is c.in_ok-due-3.field-0 c.in_ok-due-3.ensures.told)
 
@@ -150,7 +150,7 @@ returns-then-is_at-3-clause-first g c =
     let not_seg : is_awaited c.soonest-at.result c.next_due-segments.result ≡ false = search rules in
     let not_off : is_awaited c.soonest-at.result c.next_due-offers.result ≡ false = search rules in
     let first_is : is_awaited c.soonest-at.result c.next_due-subscriptions.result ≡ true = search rules in
-    rw (← c.self.view_is) (asked_first (record { calls = c.self.inside.calls; segments = c.self.inside.segments; offers = c.self.inside.offers; servers = c.self.inside.servers; subscriptions = c.self.inside.subscriptions; sessions = c.self.inside.sessions; receivers = c.self.inside.receivers; events = c.self.inside.events; ways = c.self.inside.ways; watched = c.self.inside.watched; is_offered = c.self.inside.is_offered }) c.args.now c.next_due-segments.result c.next_due-offers.result c.next_due-subscriptions.result c.next_due-lost.result c.next_due-segments.ensures c.next_due-offers.ensures c.next_due-subscriptions.ensures c.next_due-lost.ensures
+    rw (← c.self.view_is) (asked_first (record { times = c.self.inside.times; calls = c.self.inside.calls; segments = c.self.inside.segments; offers = c.self.inside.offers; servers = c.self.inside.servers; subscriptions = c.self.inside.subscriptions; sessions = c.self.inside.sessions; receivers = c.self.inside.receivers; events = c.self.inside.events; ways = c.self.inside.ways; watched = c.self.inside.watched; is_offered = c.self.inside.is_offered }) c.args.now c.next_due-segments.result c.next_due-offers.result c.next_due-subscriptions.result c.next_due-lost.result c.next_due-segments.ensures c.next_due-offers.ensures c.next_due-subscriptions.ensures c.next_due-lost.ensures
     c.earlier-others.result c.earlier-rest.result c.earlier-next.result c.soonest-at.result c.earlier-others.ensures c.earlier-rest.ensures c.earlier-next.ensures c.soonest-at.ensures
     c.in_default.ensures.none there not_seg not_off first_is c.in_ok-due-3.field-0 c.in_ok-due-3.ensures.told)
 
@@ -160,7 +160,7 @@ returns-then-is_at-3-clause-after g c =
     let not_seg : is_awaited c.soonest-at.result c.next_due-segments.result ≡ false = search rules in
     let not_off : is_awaited c.soonest-at.result c.next_due-offers.result ≡ false = search rules in
     let first_is : is_awaited c.soonest-at.result c.next_due-subscriptions.result ≡ true = search rules in
-    rw (← c.self.view_is) (asked_after (record { calls = c.self.inside.calls; segments = c.self.inside.segments; offers = c.self.inside.offers; servers = c.self.inside.servers; subscriptions = c.self.inside.subscriptions; sessions = c.self.inside.sessions; receivers = c.self.inside.receivers; events = c.self.inside.events; ways = c.self.inside.ways; watched = c.self.inside.watched; is_offered = c.self.inside.is_offered }) c.args.now c.next_due-segments.result c.next_due-offers.result c.next_due-subscriptions.result c.next_due-lost.result c.next_due-segments.ensures c.next_due-offers.ensures c.next_due-subscriptions.ensures c.next_due-lost.ensures
+    rw (← c.self.view_is) (asked_after (record { times = c.self.inside.times; calls = c.self.inside.calls; segments = c.self.inside.segments; offers = c.self.inside.offers; servers = c.self.inside.servers; subscriptions = c.self.inside.subscriptions; sessions = c.self.inside.sessions; receivers = c.self.inside.receivers; events = c.self.inside.events; ways = c.self.inside.ways; watched = c.self.inside.watched; is_offered = c.self.inside.is_offered }) c.args.now c.next_due-segments.result c.next_due-offers.result c.next_due-subscriptions.result c.next_due-lost.result c.next_due-segments.ensures c.next_due-offers.ensures c.next_due-subscriptions.ensures c.next_due-lost.ensures
     c.earlier-others.result c.earlier-rest.result c.earlier-next.result c.soonest-at.result c.earlier-others.ensures c.earlier-rest.ensures c.earlier-next.ensures c.soonest-at.ensures
     c.in_default.ensures.none there not_seg not_off first_is c.in_ok-due-3.field-0 c.in_ok-due-3.ensures.told c.due.new.self c.due-then-is_at-3.new.self c.in_default.ensures.after c.in_ok-due-3.ensures.after)
 
@@ -170,7 +170,7 @@ returns-in_err-due-4-clause-none g c =
     let not_seg : is_awaited c.soonest-at.result c.next_due-segments.result ≡ false = search rules in
     let not_off : is_awaited c.soonest-at.result c.next_due-offers.result ≡ false = search rules in
     let not_sub : is_awaited c.soonest-at.result c.next_due-subscriptions.result ≡ false = search rules in
-    absurd (no_lost (record { calls = c.self.inside.calls; segments = c.self.inside.segments; offers = c.self.inside.offers; servers = c.self.inside.servers; subscriptions = c.self.inside.subscriptions; sessions = c.self.inside.sessions; receivers = c.self.inside.receivers; events = c.self.inside.events; ways = c.self.inside.ways; watched = c.self.inside.watched; is_offered = c.self.inside.is_offered }) c.args.now c.next_due-segments.result c.next_due-offers.result c.next_due-subscriptions.result c.next_due-lost.result c.next_due-segments.ensures c.next_due-offers.ensures c.next_due-subscriptions.ensures c.next_due-lost.ensures
+    absurd (no_lost (record { times = c.self.inside.times; calls = c.self.inside.calls; segments = c.self.inside.segments; offers = c.self.inside.offers; servers = c.self.inside.servers; subscriptions = c.self.inside.subscriptions; sessions = c.self.inside.sessions; receivers = c.self.inside.receivers; events = c.self.inside.events; ways = c.self.inside.ways; watched = c.self.inside.watched; is_offered = c.self.inside.is_offered }) c.args.now c.next_due-segments.result c.next_due-offers.result c.next_due-subscriptions.result c.next_due-lost.result c.next_due-segments.ensures c.next_due-offers.ensures c.next_due-subscriptions.ensures c.next_due-lost.ensures
     c.earlier-others.result c.earlier-rest.result c.earlier-next.result c.soonest-at.result c.earlier-others.ensures c.earlier-rest.ensures c.earlier-next.ensures c.soonest-at.ensures
     c.in_default.ensures.none there not_seg not_off not_sub c.in_err-due-4.ensures.told)
 
@@ -180,7 +180,7 @@ returns-in_err-due-4-clause-after g c =
     let not_seg : is_awaited c.soonest-at.result c.next_due-segments.result ≡ false = search rules in
     let not_off : is_awaited c.soonest-at.result c.next_due-offers.result ≡ false = search rules in
     let not_sub : is_awaited c.soonest-at.result c.next_due-subscriptions.result ≡ false = search rules in
-    absurd (no_lost (record { calls = c.self.inside.calls; segments = c.self.inside.segments; offers = c.self.inside.offers; servers = c.self.inside.servers; subscriptions = c.self.inside.subscriptions; sessions = c.self.inside.sessions; receivers = c.self.inside.receivers; events = c.self.inside.events; ways = c.self.inside.ways; watched = c.self.inside.watched; is_offered = c.self.inside.is_offered }) c.args.now c.next_due-segments.result c.next_due-offers.result c.next_due-subscriptions.result c.next_due-lost.result c.next_due-segments.ensures c.next_due-offers.ensures c.next_due-subscriptions.ensures c.next_due-lost.ensures
+    absurd (no_lost (record { times = c.self.inside.times; calls = c.self.inside.calls; segments = c.self.inside.segments; offers = c.self.inside.offers; servers = c.self.inside.servers; subscriptions = c.self.inside.subscriptions; sessions = c.self.inside.sessions; receivers = c.self.inside.receivers; events = c.self.inside.events; ways = c.self.inside.ways; watched = c.self.inside.watched; is_offered = c.self.inside.is_offered }) c.args.now c.next_due-segments.result c.next_due-offers.result c.next_due-subscriptions.result c.next_due-lost.result c.next_due-segments.ensures c.next_due-offers.ensures c.next_due-subscriptions.ensures c.next_due-lost.ensures
     c.earlier-others.result c.earlier-rest.result c.earlier-next.result c.soonest-at.result c.earlier-others.ensures c.earlier-rest.ensures c.earlier-next.ensures c.soonest-at.ensures
     c.in_default.ensures.none there not_seg not_off not_sub c.in_err-due-4.ensures.told)
 
@@ -190,7 +190,7 @@ returns-clause-due g c =
     let not_seg : is_awaited c.soonest-at.result c.next_due-segments.result ≡ false = search rules in
     let not_off : is_awaited c.soonest-at.result c.next_due-offers.result ≡ false = search rules in
     let not_sub : is_awaited c.soonest-at.result c.next_due-subscriptions.result ≡ false = search rules in
-    rw (← c.self.view_is) (lost_is_due (record { calls = c.self.inside.calls; segments = c.self.inside.segments; offers = c.self.inside.offers; servers = c.self.inside.servers; subscriptions = c.self.inside.subscriptions; sessions = c.self.inside.sessions; receivers = c.self.inside.receivers; events = c.self.inside.events; ways = c.self.inside.ways; watched = c.self.inside.watched; is_offered = c.self.inside.is_offered }) c.args.now c.next_due-segments.result c.next_due-offers.result c.next_due-subscriptions.result c.next_due-lost.result c.next_due-segments.ensures c.next_due-offers.ensures c.next_due-subscriptions.ensures c.next_due-lost.ensures
+    rw (← c.self.view_is) (lost_is_due (record { times = c.self.inside.times; calls = c.self.inside.calls; segments = c.self.inside.segments; offers = c.self.inside.offers; servers = c.self.inside.servers; subscriptions = c.self.inside.subscriptions; sessions = c.self.inside.sessions; receivers = c.self.inside.receivers; events = c.self.inside.events; ways = c.self.inside.ways; watched = c.self.inside.watched; is_offered = c.self.inside.is_offered }) c.args.now c.next_due-segments.result c.next_due-offers.result c.next_due-subscriptions.result c.next_due-lost.result c.next_due-segments.ensures c.next_due-offers.ensures c.next_due-subscriptions.ensures c.next_due-lost.ensures
     c.earlier-others.result c.earlier-rest.result c.earlier-next.result c.soonest-at.result c.earlier-others.ensures c.earlier-rest.ensures c.earlier-next.ensures c.soonest-at.ensures
     c.in_default.ensures.none there not_seg not_off not_sub c.in_ok-due-4.field-0 c.in_ok-due-4.ensures.told)
 
@@ -200,7 +200,7 @@ returns-clause-first g c =
     let not_seg : is_awaited c.soonest-at.result c.next_due-segments.result ≡ false = search rules in
     let not_off : is_awaited c.soonest-at.result c.next_due-offers.result ≡ false = search rules in
     let not_sub : is_awaited c.soonest-at.result c.next_due-subscriptions.result ≡ false = search rules in
-    rw (← c.self.view_is) (lost_first (record { calls = c.self.inside.calls; segments = c.self.inside.segments; offers = c.self.inside.offers; servers = c.self.inside.servers; subscriptions = c.self.inside.subscriptions; sessions = c.self.inside.sessions; receivers = c.self.inside.receivers; events = c.self.inside.events; ways = c.self.inside.ways; watched = c.self.inside.watched; is_offered = c.self.inside.is_offered }) c.args.now c.next_due-segments.result c.next_due-offers.result c.next_due-subscriptions.result c.next_due-lost.result c.next_due-segments.ensures c.next_due-offers.ensures c.next_due-subscriptions.ensures c.next_due-lost.ensures
+    rw (← c.self.view_is) (lost_first (record { times = c.self.inside.times; calls = c.self.inside.calls; segments = c.self.inside.segments; offers = c.self.inside.offers; servers = c.self.inside.servers; subscriptions = c.self.inside.subscriptions; sessions = c.self.inside.sessions; receivers = c.self.inside.receivers; events = c.self.inside.events; ways = c.self.inside.ways; watched = c.self.inside.watched; is_offered = c.self.inside.is_offered }) c.args.now c.next_due-segments.result c.next_due-offers.result c.next_due-subscriptions.result c.next_due-lost.result c.next_due-segments.ensures c.next_due-offers.ensures c.next_due-subscriptions.ensures c.next_due-lost.ensures
     c.earlier-others.result c.earlier-rest.result c.earlier-next.result c.soonest-at.result c.earlier-others.ensures c.earlier-rest.ensures c.earlier-next.ensures c.soonest-at.ensures
     c.in_default.ensures.none there not_seg not_off not_sub c.in_ok-due-4.field-0 c.in_ok-due-4.ensures.told)
 
@@ -210,6 +210,6 @@ returns-clause-after g c =
     let not_seg : is_awaited c.soonest-at.result c.next_due-segments.result ≡ false = search rules in
     let not_off : is_awaited c.soonest-at.result c.next_due-offers.result ≡ false = search rules in
     let not_sub : is_awaited c.soonest-at.result c.next_due-subscriptions.result ≡ false = search rules in
-    rw (← c.self.view_is) (lost_after (record { calls = c.self.inside.calls; segments = c.self.inside.segments; offers = c.self.inside.offers; servers = c.self.inside.servers; subscriptions = c.self.inside.subscriptions; sessions = c.self.inside.sessions; receivers = c.self.inside.receivers; events = c.self.inside.events; ways = c.self.inside.ways; watched = c.self.inside.watched; is_offered = c.self.inside.is_offered }) c.args.now c.next_due-segments.result c.next_due-offers.result c.next_due-subscriptions.result c.next_due-lost.result c.next_due-segments.ensures c.next_due-offers.ensures c.next_due-subscriptions.ensures c.next_due-lost.ensures
+    rw (← c.self.view_is) (lost_after (record { times = c.self.inside.times; calls = c.self.inside.calls; segments = c.self.inside.segments; offers = c.self.inside.offers; servers = c.self.inside.servers; subscriptions = c.self.inside.subscriptions; sessions = c.self.inside.sessions; receivers = c.self.inside.receivers; events = c.self.inside.events; ways = c.self.inside.ways; watched = c.self.inside.watched; is_offered = c.self.inside.is_offered }) c.args.now c.next_due-segments.result c.next_due-offers.result c.next_due-subscriptions.result c.next_due-lost.result c.next_due-segments.ensures c.next_due-offers.ensures c.next_due-subscriptions.ensures c.next_due-lost.ensures
     c.earlier-others.result c.earlier-rest.result c.earlier-next.result c.soonest-at.result c.earlier-others.ensures c.earlier-rest.ensures c.earlier-next.ensures c.soonest-at.ensures
     c.in_default.ensures.none there not_seg not_off not_sub c.in_ok-due-4.field-0 c.in_ok-due-4.ensures.told c.due.new.self c.due-2.new.self c.in_default.ensures.after c.in_ok-due-4.ensures.after)
