@@ -1,0 +1,3 @@
+mod RefusalLemmas
+mod TreatingLemmas
+mod FileLemmas
