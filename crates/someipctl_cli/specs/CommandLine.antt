@@ -115,11 +115,12 @@ recording_usage = (with_rule recording_options (required_many (codes "file"))).t
 abbrev pub chart_usage : Shape
 chart_usage = (with_inputs (new_app (codes "chart"))).top
 
--- `audit [--ports PORTS] [--answer-ms N] [--settle-ms N] [--overtake-ms N] [--sessions HOW] [--group] [--frames]
+-- `audit [--ports PORTS] [--answer-ms N] [--settle-ms N] [--overtake-ms N] [--sessions HOW] [--rules FILE] [--group] [--frames]
 -- [--service SERVICES] [--json] [--address A] [--client C] [--from TIME] [--until TIME] [--learned] [--interface N] [--vlan ID] [--dedup MS] FILE..`
 abbrev pub with_settings : App → App
 with_settings app =
-    with_rule (with_rule (with_rule (with_rule app (valued (codes "answer-ms"))) (valued (codes "settle-ms"))) (valued (codes "overtake-ms"))) (valued (codes "sessions"))
+    with_rule (with_rule (with_rule (with_rule (with_rule app (valued (codes "answer-ms"))) (valued (codes "settle-ms"))) (valued (codes "overtake-ms"))) (valued (codes "sessions")))
+    (valued (codes "rules"))
 
 abbrev pub audit_options : App
 audit_options = with_packets (with_choice (with_json (with_findings (with_settings (with_rule (new_app (codes "audit")) (valued (codes "ports")))))))
@@ -205,6 +206,7 @@ pub record AuditRequest : Type 0 where
   pub json : Bool
   pub service : Option Text
   pub settings : SettingRequest
+  pub rules : Option Text
 
 -- the options of `explore`
 pub record ExploreRequest : Type 0 where
@@ -273,6 +275,7 @@ asked_by_audit_options o = record {
   json = o.json;
   service = text_at o.service;
   settings = asked_by_settings o.settings;
+  rules = text_at o.rules;
 }
 
 abbrev pub asked_by_explore_options : ExploreOptions → ExploreRequest
@@ -392,8 +395,8 @@ no_settings = setting_options_of None None None None
 abbrev pub setting_options_by : (Text → Option Text) → SettingRequest
 setting_options_by value = setting_options_of (value (codes "answer-ms")) (value (codes "settle-ms")) (value (codes "overtake-ms")) (value (codes "sessions"))
 
-abbrev pub audit_options_of : PacketRequest → ChoiceRequest → (ports frames group json service : Option Text) → SettingRequest → AuditRequest
-audit_options_of packets choice ports frames group json service settings = record {
+abbrev pub audit_options_of : PacketRequest → ChoiceRequest → (ports frames group json service : Option Text) → SettingRequest → (rules : Option Text) → AuditRequest
+audit_options_of packets choice ports frames group json service settings rules = record {
   packets = packets;
   choice = choice;
   ports = ports;
@@ -402,12 +405,13 @@ audit_options_of packets choice ports frames group json service settings = recor
   json = is_on json;
   service = service;
   settings = settings;
+  rules = rules;
 }
 
 abbrev pub audit_options_by : (Text → Option Text) → AuditRequest
 audit_options_by value =
     audit_options_of (packet_options_by value) (choice_options_by value)
-    (value (codes "ports")) (value (codes "frames")) (value (codes "group")) (value (codes "json")) (value (codes "service")) (setting_options_by value)
+    (value (codes "ports")) (value (codes "frames")) (value (codes "group")) (value (codes "json")) (value (codes "service")) (setting_options_by value) (value (codes "rules"))
 
 -- what `audit` asks for
 abbrev pub asked_by_audit : (Text → Option Text) → (Text → List Text) → Option Request

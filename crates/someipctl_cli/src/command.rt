@@ -150,6 +150,8 @@ pub struct AuditOptions<'w> {
     pub service: Option<&'w str>,
     /// The settings of the audit.
     pub settings: SettingOptions<'w>,
+    /// The path of a file of rules, as it was given.
+    pub rules: Option<&'w str>,
 }
 
 /// The options that are settings of an audit.
@@ -460,6 +462,7 @@ fn audit_options_matched<'w>(matches: &ArgMatches<'w>) -> AuditOptions<'w>
         json: is_given(matches, "json"),
         service: matches.get_str("service"),
         settings: settings_matched(matches),
+        rules: matches.get_str("rules"),
     }
 }
 

@@ -13,6 +13,7 @@ use someipctl_io::{Fault, ReadFault};
 use someipctl_recordings::LimitsError;
 use someipctl_recordings::audit::SettingError;
 use someipctl_recordings::lists::ListError;
+use someipctl_rules::RulesRefusal;
 use someipctl_run::{BadTraceLine, ScheduleRefusal, SetupRefusal};
 use someipctl_show::BadCaptureLine;
 use someipctl_show::payload::PayloadRefusal;
@@ -54,6 +55,9 @@ pub enum Refusal {
     /// That of a types file.
     #[error(transparent)]
     Types(TypesRefusal),
+    /// That of a file of rules.
+    #[error(transparent)]
+    Rules(RulesRefusal),
 }
 
 /// An option of `recording`, `audit` or `explore` whose value is checked behind the words of the call.

@@ -217,10 +217,17 @@ fn add_settings<'d>(
         "HOW",
         "Whether a sender counts the sessions of each event, or of all its events: event or sender, event without it",
     );
+    let rules = valued_option(
+        alloc,
+        "rules",
+        "FILE",
+        "Takes findings as the rules of this file say",
+    );
     let first = taking(command, answer);
     let second = taking(first, settle);
     let third = taking(second, overtake);
-    taking(third, sessions)
+    let fourth = taking(third, sessions);
+    taking(fourth, rules)
 }
 
 /// The command with the options that number and choose the lines of findings.

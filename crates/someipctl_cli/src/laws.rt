@@ -55,7 +55,7 @@ pub fn calls_by_example()
         (Some (codes "true")) None None None None None None)) }
     ensures audit_json { requested (line (codes "audit" ∷ codes "--json" ∷ codes "x" ∷ []))
         ≡ Some (audit_request (codes "x" ∷ []) (audit_options_of no_packets no_choice None None None (Some (codes "true"))
-        None no_settings)) }
+        None no_settings None)) }
 
     ensures recording { requested (line (codes "recording" ∷ codes "x" ∷ []))
         ≡ Some (recording_request (codes "x" ∷ []) (recording_options_of no_packets no_choice None None None None None None
@@ -78,18 +78,19 @@ pub fn calls_by_example()
         ≡ Some (chart_request (codes "x") (codes "y")) }
 
     ensures audit { requested (line (codes "audit" ∷ codes "x" ∷ []))
-        ≡ Some (audit_request (codes "x" ∷ []) (audit_options_of no_packets no_choice None None None None None no_settings)) }
+        ≡ Some (audit_request (codes "x" ∷ []) (audit_options_of no_packets no_choice None None None None None no_settings None)) }
     ensures audit_choice { requested (line (codes "audit" ∷ codes "x" ∷ codes "--frames" ∷ codes "--client" ∷ codes "0102"
         ∷ codes "--learned" ∷ codes "--service" ∷ codes "1111" ∷ [])) ≡ Some (audit_request (codes "x" ∷ [])
         (audit_options_of no_packets (choice_options_of None (Some (codes "0102")) None None (Some (codes "true"))) None
-        (Some (codes "true")) None None (Some (codes "1111")) no_settings)) }
+        (Some (codes "true")) None None (Some (codes "1111")) no_settings None)) }
     ensures audit_group { requested (line (codes "audit" ∷ codes "--group" ∷ codes "x" ∷ []))
         ≡ Some (audit_request (codes "x" ∷ [])
-        (audit_options_of no_packets no_choice None None (Some (codes "true")) None None no_settings)) }
+        (audit_options_of no_packets no_choice None None (Some (codes "true")) None None no_settings None)) }
     ensures audit_options { requested (line (codes "audit" ∷ codes "--ports" ∷ codes "1,2" ∷ codes "--answer-ms" ∷ codes "5"
-        ∷ codes "--settle-ms" ∷ codes "0" ∷ codes "--overtake-ms" ∷ codes "20" ∷ codes "--sessions" ∷ codes "sender" ∷ codes "x" ∷ [])) ≡ Some (audit_request (codes "x" ∷ [])
+        ∷ codes "--settle-ms" ∷ codes "0" ∷ codes "--overtake-ms" ∷ codes "20" ∷ codes "--sessions" ∷ codes "sender" ∷ codes "--rules" ∷ codes "r" ∷ codes "x" ∷ [])) ≡ Some (audit_request (codes "x" ∷ [])
         (audit_options_of no_packets no_choice (Some (codes "1,2")) None None None None
-        (setting_options_of (Some (codes "5")) (Some (codes "0")) (Some (codes "20")) (Some (codes "sender"))))) }
+        (setting_options_of (Some (codes "5")) (Some (codes "0")) (Some (codes "20")) (Some (codes "sender")))
+        (Some (codes "r")))) }
 
     // An option without its value, and one that was given twice.
     ensures bare_expect { HaveFault (line (codes "run" ∷ codes "x" ∷ codes "y" ∷ codes "--expect" ∷ []))

@@ -2,7 +2,8 @@
 use crate::command::{AuditOptions, RecordingOptions};
 use crate::failure::{Failure, Refusal};
 use crate::options::{SharedOptions, line_form, selection_of, whole_of};
-use crate::source::{open_sources, types_at};
+use crate::source::{open_sources, rules_at, types_at};
+use recording_packets::LeftOut;
 use someip_tp::IntervalPool;
 use someipctl_io::Outcome;
 use someipctl_recordings::audit::{AuditAsked, rules_in, show_audit};
@@ -65,11 +66,14 @@ fn show_wanted<'p, R: Files + Print + Eprint + Input + AllocGlobal>(
         &asked,
         &mut writer,
     );
+    if let Ok(shown) = &shown {
+        tell_left_out(rt, &shown.left_out);
+    }
     end_recording(rt, paths, shown)
 }
 
-/// Shows the audit of recordings, and then tells on standard error what was left out of them, and their fault,
-/// if they have one. Whatever is wrong with the options is told before a recording is looked at.
+/// Shows the audit of recordings, whose summary tells what was left out of them, and then tells on standard error
+/// their fault, if they have one. Whatever is wrong with the options is told before a recording is looked at.
 pub(crate) fn audit_recorded<'p, R: Files + Print + Eprint + Input + AllocGlobal>(
     rt: &R,
     paths: &[&'p str],
@@ -99,8 +103,10 @@ fn audit_wanted<'p, R: Files + Print + Eprint + Input + AllocGlobal>(
         Ok(rules) => rules,
         Err(error) => return Err(Failure::BadSetting(error)),
     };
+    let bench = rules_at(rt, options.rules)?;
     let asked = AuditAsked {
         rules,
+        bench: &bench,
         wanted,
         form: line_form(options.json),
         frames: options.frames,
@@ -117,7 +123,15 @@ fn audit_wanted<'p, R: Files + Print + Eprint + Input + AllocGlobal>(
     end_recording(rt, paths, shown)
 }
 
-/// Tells what was left out of recordings, and their fault, if they have one.
+/// Tells what was left out of recordings, if anything was.
+fn tell_left_out<R: Eprint>(rt: &R, left_out: &LeftOut) {
+    // Where standard error can't be written, what was printed stands all the same.
+    if !left_out.is_empty() {
+        let _ = eprintln!(rt; "recording: {}", left_out);
+    }
+}
+
+/// Tells what else is to be said of recordings, and their fault, if they have one.
 fn end_recording<'p, R: Eprint>(
     rt: &R,
     paths: &[&'p str],
@@ -127,10 +141,6 @@ fn end_recording<'p, R: Eprint>(
         Ok(shown) => shown,
         Err(stopped) => return Err(stopped_at(paths, stopped)),
     };
-    // Where standard error can't be written, what was printed stands all the same.
-    if !shown.left_out.is_empty() {
-        let _ = eprintln!(rt; "recording: {}", shown.left_out);
-    }
     if shown.is_full {
         let _ = eprintln!(rt; "recording: full endpoints");
     }

@@ -2,6 +2,8 @@
 ghost use Rattle.someipctl_cli.specs.Sources.{remaining_of};
 
 use crate::failure::{Failure, Refusal};
+use audit_rules::Rules;
+use someipctl_rules::read_rules;
 use someipctl_show::types::{MessageTypes, read_types};
 use std::io::{ErrorKind, Read};
 use std::rt::Files;
@@ -61,4 +63,16 @@ pub(crate) fn types_at<'p, R: Files + AllocGlobal>(
     };
     let mut file = open_file(rt, path)?;
     read_types(rt.alloc(), &mut file).map_err(|fault| Failure::of(fault.map(Refusal::Types), path))
+}
+
+/// The rules that the file at a path says, if there is one.
+pub(crate) fn rules_at<'p, R: Files + AllocGlobal>(
+    rt: &R,
+    path: Option<&'p str>,
+) -> Result<Rules, Failure<'p>> {
+    let Some(path) = path else {
+        return Ok(Rules::none(rt.alloc()));
+    };
+    let mut file = open_file(rt, path)?;
+    read_rules(rt.alloc(), &mut file).map_err(|fault| Failure::of(fault.map(Refusal::Rules), path))
 }

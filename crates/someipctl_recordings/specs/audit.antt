@@ -1,4 +1,3 @@
-pub mod Kinds
 pub mod Said
 pub mod ToldFindings
 pub mod Subjects
@@ -14,3 +13,4 @@ pub mod Settings
 pub mod Unjudged
 pub mod Groupings
 pub mod TextScenes
+pub mod Notes

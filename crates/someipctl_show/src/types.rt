@@ -30,3 +30,4 @@ pub use error::{TypesError, TypesRefusal};
 pub use key_error::KeyError;
 pub use message_types::MessageTypes;
 pub use reading::read_types;
+pub use unknown::first_unknown;

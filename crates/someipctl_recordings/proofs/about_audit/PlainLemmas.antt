@@ -26,35 +26,50 @@ use Rattle.someipctl_io.specs.declared.form.Form.TheVariants.{Plain}
 use Rattle.someipctl_io.specs.ToldLines.{ToldField, begin_text, content_text, fields_text, line_text}
 use Rattle.someipctl_recordings.specs.RecordedText.{time_text}
 use Rattle.someipctl_recordings.specs.audit.AuditText.{due_line, finding_line, head_text, line_of, origin_of_due, time_at}
-use Rattle.someipctl_recordings.specs.audit.Kinds.{kind_name, kind_words}
+use Rattle.audit_rules.specs.Kinds.{kind_name, kind_words}
 use Rattle.someipctl_recordings.specs.audit.Said.{Said, call_words, fault_words, offer_words, said, said_of_due, subscription_words}
 use Rattle.someipctl_recordings.specs.audit.ToldFindings.{audit_head, call_fields, due_fields, finding_fields, kind_told, malformed_fields, offer_fields, subscription_fields}
 use Rattle.someipctl_recordings.specs.Origins.{said_of_time}
 
 -- ---- the head
 
-frame-shape : (hash n space t k from to word : List ℕ)
-    → (((hash ++ n) ++ space) ++ ((t ++ space) ++ [])) ++ ((k ++ []) ++ (((space ++ from) ++ ((space ++ to) ++ [])) ++ (space ++ word)))
-    ≡ ((hash ++ n ++ space) ++ (t ++ ((space ++ k) ++ ((space ++ from) ++ ((space ++ to) ++ []))))) ++ (space ++ word)
-frame-shape hash n space t k from to word = simp (append_assoc, append-nil)
+frame-shape : (hash n space t k from to tail word : List ℕ)
+    → (((hash ++ n) ++ space) ++ ((t ++ space) ++ [])) ++ ((k ++ []) ++ (((space ++ from) ++ ((space ++ to) ++ tail)) ++ (space ++ word)))
+    ≡ ((hash ++ n ++ space) ++ ((t ++ ((space ++ k) ++ ((space ++ from) ++ ((space ++ to) ++ [])))) ++ tail)) ++ (space ++ word)
+frame-shape hash n space t k from to tail word = simp (append_assoc, append-nil)
 
-frameless-shape : (space t k from to word : List ℕ)
-    → ((t ++ space) ++ []) ++ ((k ++ []) ++ (((space ++ from) ++ ((space ++ to) ++ [])) ++ (space ++ word)))
-    ≡ (t ++ ((space ++ k) ++ ((space ++ from) ++ ((space ++ to) ++ [])))) ++ (space ++ word)
-frameless-shape space t k from to word = simp (append_assoc, append-nil)
+frameless-shape : (space t k from to tail word : List ℕ)
+    → ((t ++ space) ++ []) ++ ((k ++ []) ++ (((space ++ from) ++ ((space ++ to) ++ tail)) ++ (space ++ word)))
+    ≡ ((t ++ ((space ++ k) ++ ((space ++ from) ++ ((space ++ to) ++ [])))) ++ tail) ++ (space ++ word)
+frameless-shape space t k from to tail word = simp (append_assoc, append-nil)
 
 time-plain : (time : Option Time) → content_text (said_of_time time) ≡ time_text time
 time-plain None = refl
 time-plain (Some t) = refl
 
-begin-plain : (frames : Bool) (time : Option Time) (origin : Origin) (name word : List ℕ)
-    → begin_text Plain (audit_head frames time origin) name (Some word) ≡ head_text frames time origin ++ (codes " " ++ word)
-begin-plain true time origin name word =
-    frame-shape (codes "#") (decimal origin.numbers.frame) (codes " ") (content_text (said_of_time time)) (decimal origin.numbers.datagram) (socket_v4_text origin.from) (socket_v4_text origin.to) word
-    ∙ ap (λ t. (codes "#" ++ decimal origin.numbers.frame ++ codes " ") ++ (t ++ spaced (decimal origin.numbers.datagram ∷ socket_v4_text origin.from ∷ socket_v4_text origin.to ∷ [])) ++ (codes " " ++ word)) (time-plain time)
-begin-plain false time origin name word =
-    frameless-shape (codes " ") (content_text (said_of_time time)) (decimal origin.numbers.datagram) (socket_v4_text origin.from) (socket_v4_text origin.to) word
-    ∙ ap (λ t. (t ++ spaced (decimal origin.numbers.datagram ∷ socket_v4_text origin.from ∷ socket_v4_text origin.to ∷ [])) ++ (codes " " ++ word)) (time-plain time)
+with-frame : (time : Option Time) (origin : Origin) (tail word : List ℕ)
+    → (((codes "#" ++ decimal origin.numbers.frame) ++ codes " ") ++ ((content_text (said_of_time time) ++ codes " ") ++ []))
+    ++ ((decimal origin.numbers.datagram ++ []) ++ (((codes " " ++ socket_v4_text origin.from) ++ ((codes " " ++ socket_v4_text origin.to) ++ tail)) ++ (codes " " ++ word)))
+    ≡ ((codes "#" ++ decimal origin.numbers.frame ++ codes " ")
+    ++ ((time_text time ++ spaced (decimal origin.numbers.datagram ∷ socket_v4_text origin.from ∷ socket_v4_text origin.to ∷ [])) ++ tail)) ++ (codes " " ++ word)
+with-frame time origin tail word =
+    frame-shape (codes "#") (decimal origin.numbers.frame) (codes " ") (content_text (said_of_time time)) (decimal origin.numbers.datagram) (socket_v4_text origin.from) (socket_v4_text origin.to) tail word
+    ∙ ap (λ t. ((codes "#" ++ decimal origin.numbers.frame ++ codes " ") ++ ((t ++ spaced (decimal origin.numbers.datagram ∷ socket_v4_text origin.from ∷ socket_v4_text origin.to ∷ [])) ++ tail)) ++ (codes " " ++ word)) (time-plain time)
+
+without-frame : (time : Option Time) (origin : Origin) (tail word : List ℕ)
+    → ((content_text (said_of_time time) ++ codes " ") ++ [])
+    ++ ((decimal origin.numbers.datagram ++ []) ++ (((codes " " ++ socket_v4_text origin.from) ++ ((codes " " ++ socket_v4_text origin.to) ++ tail)) ++ (codes " " ++ word)))
+    ≡ ((time_text time ++ spaced (decimal origin.numbers.datagram ∷ socket_v4_text origin.from ∷ socket_v4_text origin.to ∷ [])) ++ tail) ++ (codes " " ++ word)
+without-frame time origin tail word =
+    frameless-shape (codes " ") (content_text (said_of_time time)) (decimal origin.numbers.datagram) (socket_v4_text origin.from) (socket_v4_text origin.to) tail word
+    ∙ ap (λ t. ((t ++ spaced (decimal origin.numbers.datagram ∷ socket_v4_text origin.from ∷ socket_v4_text origin.to ∷ [])) ++ tail) ++ (codes " " ++ word)) (time-plain time)
+
+begin-plain : (frames allowed : Bool) (time : Option Time) (origin : Origin) (name word : List ℕ)
+    → begin_text Plain (audit_head frames allowed time origin) name (Some word) ≡ head_text frames allowed time origin ++ (codes " " ++ word)
+begin-plain true true time origin name word = with-frame time origin (codes " allowed") word
+begin-plain true false time origin name word = with-frame time origin [] word
+begin-plain false true time origin name word = without-frame time origin (codes " allowed") word
+begin-plain false false time origin name word = without-frame time origin [] word
 
 -- ---- the words
 
@@ -163,14 +178,14 @@ line-shape : (head word words end : List ℕ) → (head ++ word) ++ (words ++ en
 line-shape head word words end = simp append_assoc
 
 -- a line of fields that are words
-line-plain : (frames : Bool) (time : Option Time) (origin : Origin) (s : Said) (fields : List ToldField) → fields_text Plain fields ≡ spaced s.words
-    → line_text Plain (audit_head frames time origin) (kind_told s.kind fields) ≡ line_of frames time origin s
-line-plain frames time origin s fields is =
-    ap₂ (λ (begin words : List ℕ). begin ++ (words ++ codes "\n")) (begin-plain frames time origin (kind_name s.kind) (kind_words s.kind)) is
-    ∙ line-shape (head_text frames time origin) (codes " " ++ kind_words s.kind) (spaced s.words) (codes "\n")
+line-plain : (frames allowed : Bool) (time : Option Time) (origin : Origin) (s : Said) (fields : List ToldField) → fields_text Plain fields ≡ spaced s.words
+    → line_text Plain (audit_head frames allowed time origin) (kind_told s.kind fields) ≡ line_of frames allowed time origin s
+line-plain frames allowed time origin s fields is =
+    ap₂ (λ (begin words : List ℕ). begin ++ (words ++ codes "\n")) (begin-plain frames allowed time origin (kind_name s.kind) (kind_words s.kind)) is
+    ∙ line-shape (head_text frames allowed time origin) (codes " " ++ kind_words s.kind) (spaced s.words) (codes "\n")
 
-pub finding-plain : (frames : Bool) (time : Option Time) (origin : Origin) (finding : Finding) → finding_line Plain frames time origin finding ≡ line_of frames time origin (said finding)
-finding-plain frames time origin finding = line-plain frames time origin (said finding) (finding_fields finding) (finding-words finding)
+pub finding-plain : (frames allowed : Bool) (time : Option Time) (origin : Origin) (finding : Finding) → finding_line Plain frames allowed time origin finding ≡ line_of frames allowed time origin (said finding)
+finding-plain frames allowed time origin finding = line-plain frames allowed time origin (said finding) (finding_fields finding) (finding-words finding)
 
-pub due-plain : (frames : Bool) (told : FellDue) → due_line Plain frames told ≡ line_of frames (Some (time_at (deadline told))) (origin_of_due told) (said_of_due told)
-due-plain frames told = line-plain frames (Some (time_at (deadline told))) (origin_of_due told) (said_of_due told) (due_fields told) (due-words told)
+pub due-plain : (frames allowed : Bool) (told : FellDue) → due_line Plain frames allowed told ≡ line_of frames allowed (Some (time_at (deadline told))) (origin_of_due told) (said_of_due told)
+due-plain frames allowed told = line-plain frames allowed (Some (time_at (deadline told))) (origin_of_due told) (said_of_due told) (due_fields told) (due-words told)

@@ -1,5 +1,5 @@
 -- The audit of a recording so far.
-use Rattle.std.proofs.Common.{◌≡◌, ℕ, ◌+◌, ◌<◌, ◌≤◌, List, [], ◌∷◌, ◌++◌, map, length, Option, Some, None, Result, Ok, Err, refl, sym, ap, subst, ◌∙◌, append_assoc, inl, inr, arith, suc, nat_lt, false, lt-ltb, length-append}
+use Rattle.std.proofs.Common.{◌≡◌, ℕ, ◌+◌, ◌<◌, ◌≤◌, List, [], ◌∷◌, ◌++◌, map, length, Option, Some, None, Result, Ok, Err, refl, sym, ap, subst, ◌∙◌, append_assoc, inl, inr, false, length-append}
 use Rattle.std.specs.Option.{option_to_list}
 use Rattle.std.specs.Result.{IfOk}
 use Rattle.std.proofs.lemmas.List.{append-nil}
@@ -11,7 +11,9 @@ use Rattle.someipctl_recordings.specs.declared.recordings.FileFault.{FileFault}
 use Rattle.recording.specs.Readers.{CanFollow, ReaderValue, to_come}
 use Rattle.recording.specs.Records.{Item}
 use Rattle.someip_audit.specs.declared.FellDue.{FellDue}
-use Rattle.someip_audit.specs.groups.GroupTables.{Groups}
+use Rattle.someipctl_recordings.specs.declared.audit.noted.Noted.{Noted}
+use Rattle.audit_rules.specs.Weighing.{fails}
+use Rattle.recording_packets.specs.declared.LeftOut.{LeftOut}
 use Rattle.someip_audit.specs.Audits.{AuditState, Hears, Report, Seen, fell, seen_messages}
 use Rattle.someipctl_io.specs.Outcomes.{fault_outcome}
 use Rattle.someipctl_io.specs.Sending.{Sends, Stops}
@@ -28,15 +30,15 @@ use Rattle.someipctl_recordings.specs.declared.audit.auditing.SeenDatagram.{Seen
 use Rattle.someipctl_recordings.specs.declared.audit.tally.Tally.{Tally}
 use Rattle.someipctl_recordings.specs.audit.Scenes.{view_seen}
 use Rattle.someipctl_recordings.specs.audit.AskedAudits.{AskedAudit}
-use Rattle.someipctl_recordings.specs.audit.AuditResult.{BeginsAudit, IsAuditText, ShowsAudit, has_findings}
-use Rattle.someipctl_recordings.specs.audit.AuditText.{Looked, audit_text, closing_text, grouped_all, line_of_report, report_lines, shown_lines, told_of}
-use Rattle.someipctl_recordings.specs.audit.Groupings.{groups_begun}
+use Rattle.someipctl_recordings.specs.audit.AuditResult.{BeginsAudit, IsAuditText, ShowsAudit, left_out_in}
+use Rattle.someipctl_recordings.specs.audit.AuditText.{Looked, audit_text, closing_text, noted_all, noted_in, line_of_report, report_lines, shown_lines, told_of}
+use Rattle.someipctl_recordings.specs.audit.Notes.{noted_begun}
 use Rattle.someipctl_recordings.specs.audit.Runs.{EndsWith, IsNothing, PutsAudit, PutsDatagram, PutsEnd, PutsLast, PutsNext, PutsRecord, StopsDatagram, StopsEnd, StopsLast, StopsNext, StopsRecord}
 use Rattle.someipctl_recordings.specs.audit.SeenIn.{Tells, TellsSome, arrivals_in, audit_at, ended_with, looked_more, looked_of, none_looked, seen_from, seen_in, seen_next}
 use Rattle.someipctl_recordings.specs.audit.Steps.{CountsMore, PutsSeen, StopsSeen, fell_told, lines_at}
 use Rattle.someipctl_recordings.specs.audit.Tallies.{Counts}
 use Rattle.someipctl_recordings.proofs.about_audit.StepLemmas.{counts_none, stops_here}
-use Rattle.someipctl_recordings.proofs.about_audit.ShownLemmas.{grouped_all-append, shown_lines-append}
+use Rattle.someipctl_recordings.proofs.about_audit.ShownLemmas.{noted_all-append, shown_lines-append}
 use Rattle.someipctl_recordings.proofs.about_audit.SeenLemmas.{Goes, fell_same, fell_told_in, heard_same, heard_told, latest, latest-append, looked_ended, looked_first, looked_moved, looked_plus, seen_more, some_heard, some_same, some_step, tells_nothing, tells_step, time_now, told_on}
 
 pub if_ok_three : {T E : Type 0} (r : Result T E) (P Q R S : T → Type 0) → ((x : T) → P x → Q x → R x → S x) → IfOk r P → IfOk r Q → IfOk r R → IfOk r S
@@ -65,12 +67,12 @@ pub record IsAudited (asked : AskedAudit) (inputs ares : List (Option (List ℕ)
       → Goes asked (seen_in (came asked done) ++ others) (reports ++ rest) (looked_plus looked (looked_of asked gone.now audit others rest t))
   pub some : (others : List Seen) (rest : List Report) → TellsSome asked gone.now audit others rest → TellsSome asked 0 None (seen_in (came asked done) ++ others) (reports ++ rest)
   pub counts : (others : List ArrivalValue) → Counts gone.tally (told_of asked (came asked done ++ others) reports) looked
-  pub groups : (others : List ArrivalValue) → gone.tally.groups ≡ grouped_all (groups_begun asked.group) (told_of asked (came asked done ++ others) reports)
+  pub noted : (others : List ArrivalValue) → gone.tally.noted ≡ noted_all (noted_begun asked.group asked.bench) (told_of asked (came asked done ++ others) reports)
   pub took : s ≡ taken asked done
   pub none : fault_among done ≡ None
 
 pub audited_begin : (asked : AskedAudit) (inputs : List (Option (List ℕ))) (r : ReaderValue) (before : Option (List ℕ)) (held : List ℕ) (audit : Option AuditState) (gone : Gone) (s : IntakeValue)
-    → r ≡ begin → held ≡ [] → audit ≡ None → IsNothing asked.group gone → s ≡ (nothing_taken asked.wanted.packets)
+    → r ≡ begin → held ≡ [] → audit ≡ None → IsNothing asked.group asked.bench gone → s ≡ (nothing_taken asked.wanted.packets)
     → IsAudited asked inputs inputs 0 r before before held audit gone s
 audited_begin asked inputs r before held audit gone s is empty none begun nothing = record {
   done = [];
@@ -86,7 +88,7 @@ audited_begin asked inputs r before held audit gone s is empty none begun nothin
   some = subst (λ n. (others : List Seen) (rest : List Report) → TellsSome asked n audit others rest → TellsSome asked 0 None others rest) (sym begun.now)
       (subst (λ a. (others : List Seen) (rest : List Report) → TellsSome asked 0 a others rest → TellsSome asked 0 None others rest) (sym none) (λ others rest t. t));
   counts = λ others. begun.counts;
-  groups = λ others. begun.groups;
+  noted = λ others. begun.noted;
   took = nothing;
   none = refl;
 }
@@ -107,7 +109,7 @@ audited_as asked inputs ares next k m r new before after later held waits audit 
   goes = subst (λ (l : List ArrivalValue). (others : List Seen) (rest : List Report) (t : Tells asked gone.now audit others rest) → Goes asked (seen_in l ++ others) (is.reports ++ rest) (looked_plus is.looked (looked_of asked gone.now audit others rest t))) (sym same) is.goes;
   some = subst (λ (l : List ArrivalValue). (others : List Seen) (rest : List Report) → TellsSome asked gone.now audit others rest → TellsSome asked 0 None (seen_in l ++ others) (is.reports ++ rest)) (sym same) is.some;
   counts = λ others. subst (λ (l : List ArrivalValue). Counts gone.tally (told_of asked (l ++ others) is.reports) is.looked) (sym same) (is.counts others);
-  groups = λ others. is.groups others ∙ ap (λ (l : List ArrivalValue). grouped_all (groups_begun asked.group) (told_of asked (l ++ others) is.reports)) (sym same);
+  noted = λ others. is.noted others ∙ ap (λ (l : List ArrivalValue). noted_all (noted_begun asked.group asked.bench) (told_of asked (l ++ others) is.reports)) (sym same);
   took = takes;
   none = none;
 }
@@ -134,7 +136,7 @@ audited_next asked inputs ares next k r new fresh now before after later held wa
 pub record IsLast (asked : AskedAudit) (now : ℕ) (audit ended : Option AuditState) (tally later : Tally) (a : Option (List ℕ)) (held : List ℕ) (b : Option (List ℕ)) (waits : List ℕ) : Type 0 where
   pub told : List FellDue
   pub ends : EndsWith now audit told ended
-  pub sends : Sends a held b waits (lines_at asked None tally.groups (map fell told))
+  pub sends : Sends a held b waits (lines_at asked None tally.noted (map fell told))
   pub counts : CountsMore tally later (fell_told asked told)
 
 pub last_ends : (asked : AskedAudit) (now : ℕ) (audit ended : Option AuditState) (tally later : Tally) (a : Option (List ℕ)) (held : List ℕ) (b : Option (List ℕ)) (waits : List ℕ) → PutsLast asked now audit ended tally later a held b waits
@@ -148,46 +150,42 @@ last_ends asked now None ended tally later a held b waits puts = record {
 last_ends asked now (Some state) ended tally later a held b waits puts =
     record { told = puts.2.told; ends = (puts.0, puts.2.drains, puts.1); sends = puts.2.sends; counts = puts.2.counts }
 
-has_some : (n : ℕ) (reports : List Report) → n ≡ length reports → nat_lt 0 n ≡ has_findings reports
-has_some n [] is = ap (nat_lt 0) is
-has_some n (report ∷ reports) is = ap (nat_lt 0) is ∙ lt-ltb 0 (suc (length reports)) (omega arith)
-
-pub end_puts : (asked : AskedAudit) (gone : Gone) (audit ended : Option AuditState) (later : Tally) (reports : List Report) (looked : Looked) (a : Option (List ℕ)) (held : List ℕ) (b : Option (List ℕ)) (waits : List ℕ) (c : Option (List ℕ)) (new : List ℕ) (shown : ShownRecording)
+pub end_puts : (asked : AskedAudit) (left_out : LeftOut) (gone : Gone) (audit ended : Option AuditState) (later : Tally) (reports : List Report) (looked : Looked) (a : Option (List ℕ)) (held : List ℕ) (b : Option (List ℕ)) (waits : List ℕ) (c : Option (List ℕ)) (new : List ℕ) (shown : ShownRecording)
     → PutsLast asked gone.now audit ended gone.tally later a held b waits → Counts gone.tally reports looked
-    → ((all : List Report) → Counts later all looked → Sends b waits c new (closing_text asked.form (ended_with ended looked) later.groups all)) → shown.outcome ≡ fault_outcome (nat_lt 0 later.findings) → shown.is_full ≡ false
-    → PutsEnd asked gone audit reports looked a held c new shown
-end_puts asked gone audit ended later reports looked a held b waits c new shown puts counts summary outcome full =
+    → ((all : List Report) → Counts later all looked → Sends b waits c new (closing_text asked.form left_out (ended_with ended looked) later.noted all)) → shown.outcome ≡ fault_outcome (fails later.noted.weights) → shown.is_full ≡ false
+    → PutsEnd asked left_out gone audit reports looked a held c new shown
+end_puts asked left_out gone audit ended later reports looked a held b waits c new shown puts counts summary outcome full =
     let last = last_ends asked gone.now audit ended gone.tally later a held b waits puts in
     let all = last.counts.0 reports looked counts in
-    let closing : Option Groups → List ℕ = λ g. closing_text asked.form (ended_with ended looked) g (reports ++ fell_told asked last.told) in
+    let closing : Noted → List ℕ = λ g. closing_text asked.form left_out (ended_with ended looked) g (reports ++ fell_told asked last.told) in
     record {
       told = last.told;
       ended = ended;
       ends = last.ends;
-      sends = Sends-trans a b c held waits new (lines_at asked None gone.tally.groups (map fell last.told)) (closing (grouped_all gone.tally.groups (fell_told asked last.told))) last.sends
+      sends = Sends-trans a b c held waits new (lines_at asked None gone.tally.noted (map fell last.told)) (closing (noted_all gone.tally.noted (fell_told asked last.told))) last.sends
           (subst (λ g. Sends b waits c new (closing g)) last.counts.1 (summary (reports ++ fell_told asked last.told) all));
-      outcome = outcome ∙ ap fault_outcome (has_some later.findings (reports ++ fell_told asked last.told) all.findings);
+      outcome = outcome ∙ ap (λ (n : Noted). fault_outcome (fails n.weights)) last.counts.1;
       full = full;
     }
 
-pub end_stops : (asked : AskedAudit) (gone : Gone) (audit ended : Option AuditState) (later : Tally) (reports : List Report) (looked : Looked) (a : Option (List ℕ)) (held : List ℕ) (b : Option (List ℕ)) (waits : List ℕ) (c : Option (List ℕ))
+pub end_stops : (asked : AskedAudit) (left_out : LeftOut) (gone : Gone) (audit ended : Option AuditState) (later : Tally) (reports : List Report) (looked : Looked) (a : Option (List ℕ)) (held : List ℕ) (b : Option (List ℕ)) (waits : List ℕ) (c : Option (List ℕ))
     → PutsLast asked gone.now audit ended gone.tally later a held b waits → Counts gone.tally reports looked
-    → ((all : List Report) → Counts later all looked → Stops b waits c (closing_text asked.form (ended_with ended looked) later.groups all)) → StopsEnd asked gone audit reports looked a held c
-end_stops asked gone audit ended later reports looked a held b waits c puts counts summary =
+    → ((all : List Report) → Counts later all looked → Stops b waits c (closing_text asked.form left_out (ended_with ended looked) later.noted all)) → StopsEnd asked left_out gone audit reports looked a held c
+end_stops asked left_out gone audit ended later reports looked a held b waits c puts counts summary =
     let last = last_ends asked gone.now audit ended gone.tally later a held b waits puts in
-    let closing : Option Groups → List ℕ = λ g. closing_text asked.form (ended_with ended looked) g (reports ++ fell_told asked last.told) in
+    let closing : Noted → List ℕ = λ g. closing_text asked.form left_out (ended_with ended looked) g (reports ++ fell_told asked last.told) in
     inr (record {
       told = last.told;
       ended = ended;
       ends = last.ends;
-      stops = Stops-after a b c held waits (lines_at asked None gone.tally.groups (map fell last.told)) (closing (grouped_all gone.tally.groups (fell_told asked last.told))) last.sends
+      stops = Stops-after a b c held waits (lines_at asked None gone.tally.noted (map fell last.told)) (closing (noted_all gone.tally.noted (fell_told asked last.told))) last.sends
           (subst (λ g. Stops b waits c (closing g)) last.counts.1 (summary (reports ++ fell_told asked last.told) (last.counts.0 reports looked counts)));
     })
 
 -- ---- a datagram
 
-pub begin_stops : (asked : AskedAudit) (s : SeenDatagram) (audit : Option AuditState) (groups : Option Groups) (a : Option (List ℕ)) (held : List ℕ) → StopsNext asked s audit groups a held a
-begin_stops asked s audit groups a held = record { told = []; some = inl ([], tt, refl); stops = stops_here a held a held [] (Sends-nil a held) }
+pub begin_stops : (asked : AskedAudit) (s : SeenDatagram) (audit : Option AuditState) (noted : Noted) (a : Option (List ℕ)) (held : List ℕ) → StopsNext asked s audit noted a held a
+begin_stops asked s audit noted a held = record { told = []; some = inl ([], tt, refl); stops = stops_here a held a held [] (Sends-nil a held) }
 
 pub next_puts : (asked : AskedAudit) (s : SeenDatagram) (d : ArrivalValue) (before after : Option AuditState) (gone : Gone) (tally : Tally) (a : Option (List ℕ)) (held : List ℕ) (b : Option (List ℕ)) (waits : List ℕ)
     → view_seen s ≡ seen_next gone.datagrams gone.now d → s.time ≡ d.datagram.time → PutsNext asked s before after gone.tally tally a held b waits
@@ -202,10 +200,10 @@ next_puts asked s d before after gone tally a held b waits seen time puts = reco
 }
 
 pub next_stops : (asked : AskedAudit) (s : SeenDatagram) (d : ArrivalValue) (before : Option AuditState) (gone : Gone) (a : Option (List ℕ)) (held : List ℕ) (b : Option (List ℕ))
-    → view_seen s ≡ seen_next gone.datagrams gone.now d → s.time ≡ d.datagram.time → StopsNext asked s before gone.tally.groups a held b → StopsDatagram asked d before gone a held b
+    → view_seen s ≡ seen_next gone.datagrams gone.now d → s.time ≡ d.datagram.time → StopsNext asked s before gone.tally.noted a held b → StopsDatagram asked d before gone a held b
 next_stops asked s d before gone a held b seen time stops =
-    subst (λ x. StopsSeen asked d.datagram.time x (audit_at asked before x) gone.tally.groups a held b) seen
-    (subst (λ t. StopsSeen asked t (view_seen s) (audit_at asked before (view_seen s)) gone.tally.groups a held b) time stops)
+    subst (λ x. StopsSeen asked d.datagram.time x (audit_at asked before x) gone.tally.noted a held b) seen
+    (subst (λ t. StopsSeen asked t (view_seen s) (audit_at asked before (view_seen s)) gone.tally.noted a held b) time stops)
 
 -- it is gone over
 goes_more : (asked : AskedAudit) (last : ℕ) (audit : Option AuditState) (seens : List Seen) (reports : List Report) (looked : Looked) (seen : Seen) (state : AuditState) (first : List Report)
@@ -235,20 +233,20 @@ one_longer : (n : ℕ) (ds : List ArrivalValue) (d : ArrivalValue) → n ≡ len
 one_longer n ds d is = ap (λ k. k + 1) is ∙ sym (length-append ds (d ∷ []))
 
 -- the text of what was told before, and of what is told of the datagram
-whole_lines : (asked : AskedAudit) (all : List ArrivalValue) (groups : Option Groups) (reports more : List Report) → groups ≡ grouped_all (groups_begun asked.group) (told_of asked all reports)
-    → report_lines asked all reports ++ shown_lines (line_of_report asked all) groups (told_of asked all more) ≡ report_lines asked all (reports ++ more)
-whole_lines asked all groups reports more is =
+whole_lines : (asked : AskedAudit) (all : List ArrivalValue) (noted : Noted) (reports more : List Report) → noted ≡ noted_all (noted_begun asked.group asked.bench) (told_of asked all reports)
+    → report_lines asked all reports ++ shown_lines (line_of_report asked all) noted (told_of asked all more) ≡ report_lines asked all (reports ++ more)
+whole_lines asked all noted reports more is =
     ap (λ g. report_lines asked all reports ++ shown_lines (line_of_report asked all) g (told_of asked all more)) is
-    ∙ sym (shown_lines-append (line_of_report asked all) (groups_begun asked.group) (told_of asked all reports) (told_of asked all more))
-    ∙ ap (shown_lines (line_of_report asked all) (groups_begun asked.group)) (sym (told_on asked all reports more))
+    ∙ sym (shown_lines-append (line_of_report asked all) (noted_begun asked.group asked.bench) (told_of asked all reports) (told_of asked all more))
+    ∙ ap (shown_lines (line_of_report asked all) (noted_begun asked.group asked.bench)) (sym (told_on asked all reports more))
 
 -- what came of each group before, and of the datagram
-whole_groups : (asked : AskedAudit) (all : List ArrivalValue) (groups later : Option Groups) (reports more : List Report) → groups ≡ grouped_all (groups_begun asked.group) (told_of asked all reports)
-    → later ≡ grouped_all groups (told_of asked all more) → later ≡ grouped_all (groups_begun asked.group) (told_of asked all (reports ++ more))
-whole_groups asked all groups later reports more is then =
-    then ∙ ap (λ g. grouped_all g (told_of asked all more)) is
-    ∙ sym (grouped_all-append (groups_begun asked.group) (told_of asked all reports) (told_of asked all more))
-    ∙ ap (grouped_all (groups_begun asked.group)) (sym (told_on asked all reports more))
+whole_noted : (asked : AskedAudit) (all : List ArrivalValue) (noted later : Noted) (reports more : List Report) → noted ≡ noted_all (noted_begun asked.group asked.bench) (told_of asked all reports)
+    → later ≡ noted_all noted (told_of asked all more) → later ≡ noted_all (noted_begun asked.group asked.bench) (told_of asked all (reports ++ more))
+whole_noted asked all noted later reports more is then =
+    then ∙ ap (λ g. noted_all g (told_of asked all more)) is
+    ∙ sym (noted_all-append (noted_begun asked.group asked.bench) (told_of asked all reports) (told_of asked all more))
+    ∙ ap (noted_all (noted_begun asked.group asked.bench)) (sym (told_on asked all reports more))
 
 -- the datagrams after one more record
 came_more : (asked : AskedAudit) (done : List Item) (s : IntakeValue) (found : RecordValue) (given : Option ArrivalValue) → s ≡ taken asked done → arrived asked.wanted.packets s found ≡ given
@@ -283,12 +281,12 @@ audited_datagram asked inputs ares step_to k r new now before after later last h
       sends = λ others.
           let whole : ds ++ d ∷ others ≡ came asked (is.done ++ Ok found ∷ []) ++ others = sym (append_assoc ds (d ∷ []) others) ∙ ap (λ (l : List ArrivalValue). l ++ others) (sym all) in
           subst (λ (l : List ArrivalValue). Sends before [] last rest (report_lines asked l (is.reports ++ told))) whole
-          (subst (Sends before [] last rest) (whole_lines asked (ds ++ d ∷ others) gone.tally.groups is.reports told (is.groups (d ∷ others)))
+          (subst (Sends before [] last rest) (whole_lines asked (ds ++ d ∷ others) gone.tally.noted is.reports told (is.noted (d ∷ others)))
           (Sends-trans before later last [] waits rest (report_lines asked (ds ++ d ∷ others) is.reports)
-          (shown_lines (line_of_report asked (ds ++ d ∷ others)) gone.tally.groups (told_of asked (ds ++ d ∷ others) told))
+          (shown_lines (line_of_report asked (ds ++ d ∷ others)) gone.tally.noted (told_of asked (ds ++ d ∷ others) told))
           (Sends-flush before after later [] held waits (report_lines asked (ds ++ d ∷ others) is.reports) (is.sends (d ∷ others)) sends)
           (subst (Sends later waits last rest)
-          (heard_same asked (ds ++ d ∷ others) d.datagram.time seen (audit_at asked audit seen) puts.state gone.tally.groups told (time_now gone.datagrams ds d others is.number) hears) puts.puts.sends)));
+          (heard_same asked (ds ++ d ∷ others) d.datagram.time seen (audit_at asked audit seen) puts.state gone.tally.noted told (time_now gone.datagrams ds d others is.number) hears) puts.puts.sends)));
       number = puts.number ∙ one_longer gone.datagrams ds d is.number ∙ ap length (sym all);
       moment = puts.moment ∙ ap (λ n. moment_of n d.datagram.time) is.moment ∙ sym (latest-append 0 ds d) ∙ ap (latest 0) (sym all);
       goes = moved (is.reports ++ told) (looked_more (seen_messages seen hears.between) is.looked) seens puts.is puts.moment (goes_more asked gone.now audit (seen_in ds) is.reports is.looked seen puts.state told hears is.goes);
@@ -301,11 +299,11 @@ audited_datagram asked inputs ares step_to k r new now before after later last h
           (ap (λ (l : List Report). before_it ++ l) (heard_told asked (ds ++ d ∷ others) d.datagram.time seen (audit_at asked audit seen) puts.state told (time_now gone.datagrams ds d others is.number) hears)
           ∙ sym (told_on asked (ds ++ d ∷ others) is.reports told))
           (puts.puts.counts before_it is.looked (is.counts (d ∷ others))));
-      groups = λ others.
+      noted = λ others.
           let whole : ds ++ d ∷ others ≡ came asked (is.done ++ Ok found ∷ []) ++ others = sym (append_assoc ds (d ∷ []) others) ∙ ap (λ (l : List ArrivalValue). l ++ others) (sym all) in
-          subst (λ (l : List ArrivalValue). more.tally.groups ≡ grouped_all (groups_begun asked.group) (told_of asked l (is.reports ++ told))) whole
-          (whole_groups asked (ds ++ d ∷ others) gone.tally.groups more.tally.groups is.reports told (is.groups (d ∷ others))
-          (puts.puts.groups ∙ ap (grouped_all gone.tally.groups)
+          subst (λ (l : List ArrivalValue). more.tally.noted ≡ noted_all (noted_begun asked.group asked.bench) (told_of asked l (is.reports ++ told))) whole
+          (whole_noted asked (ds ++ d ∷ others) gone.tally.noted more.tally.noted is.reports told (is.noted (d ∷ others))
+          (puts.puts.noted ∙ ap (noted_all gone.tally.noted)
           (heard_told asked (ds ++ d ∷ others) d.datagram.time seen (audit_at asked audit seen) puts.state told (time_now gone.datagrams ds d others is.number) hears)));
       took = took_more asked is.done s found is.took;
       none = fault-append is.done (Ok found ∷ []) is.none;
@@ -357,7 +355,7 @@ begins_some asked inputs before last files left ds all reports some stops = reco
   sent = stops.sends.sent;
   unsent = stops.unsent;
   wrote = stops.sends.wrote;
-  beginning = subst (λ (l : List ArrivalValue). IsAuditText asked l (stops.sends.sent ++ stops.unsent)) (sym all) (inl (reports, some, stops.sends.rest));
+  beginning = subst (λ (l : List ArrivalValue). IsAuditText asked (left_out_in asked files) l (stops.sends.sent ++ stops.unsent)) (sym all) (inl (reports, some, stops.sends.rest));
 }
 
 -- nothing was written
@@ -397,12 +395,12 @@ stops_datagram asked inputs ares step_to k r new now before after later last hel
     begins_some asked inputs before last f.files f.left (ds ++ d ∷ more) all (is.reports ++ stops.told)
     (subst (λ (l : List Seen). TellsSome asked 0 None l (is.reports ++ stops.told)) (sym (seen_more gone ds (d ∷ more) is.number is.moment))
     (is.some (seen ∷ others) stops.told (some_heard asked gone.now audit seen others stops.told stops.some)))
-    (subst (Stops before [] last) (whole_lines asked (ds ++ d ∷ more) gone.tally.groups is.reports stops.told (is.groups (d ∷ more)))
+    (subst (Stops before [] last) (whole_lines asked (ds ++ d ∷ more) gone.tally.noted is.reports stops.told (is.noted (d ∷ more)))
     (Stops-after before later last [] waits (report_lines asked (ds ++ d ∷ more) is.reports)
-    (shown_lines (line_of_report asked (ds ++ d ∷ more)) gone.tally.groups (told_of asked (ds ++ d ∷ more) stops.told))
+    (shown_lines (line_of_report asked (ds ++ d ∷ more)) gone.tally.noted (told_of asked (ds ++ d ∷ more) stops.told))
     (Sends-flush before after later [] held waits (report_lines asked (ds ++ d ∷ more) is.reports) (is.sends (d ∷ more)) sends)
     (subst (Stops later waits last)
-    (some_same asked (ds ++ d ∷ more) d.datagram.time seen (audit_at asked audit seen) gone.tally.groups stops.told (time_now gone.datagrams ds d more is.number) stops.some) stops.stops)))
+    (some_same asked (ds ++ d ∷ more) d.datagram.time seen (audit_at asked audit seen) gone.tally.noted stops.told (time_now gone.datagrams ds d more is.number) stops.some) stops.stops)))
 
 pub stops_record : (asked : AskedAudit) (inputs ares step_to : List (Option (List ℕ))) (k : ℕ) (r new : ReaderValue) (now before after later last : Option (List ℕ)) (held waits : List ℕ) (audit : Option AuditState) (gone : Gone) (s : IntakeValue) (found : RecordValue)
     → IsAudited asked inputs ares k r before after held audit gone s → k < length ares → IsStep ares step_to k now → Comes r new (left_at ares k) now (Ok found ∷ []) → Sends after held later waits []
@@ -444,19 +442,24 @@ told_end : (asked : AskedAudit) (ds : List ArrivalValue) (reports : List Report)
 told_end asked ds reports told =
     ap (λ (l : List Report). told_of asked ds reports ++ l) (fell_told_in asked ds told) ∙ sym (told_on asked ds reports (map fell told))
 
+-- what is noted at the end
+noted_end : (asked : AskedAudit) (ds : List ArrivalValue) (noted : Noted) (reports : List Report) (told : List FellDue) → noted ≡ noted_all (noted_begun asked.group asked.bench) (told_of asked ds reports)
+    → noted_all noted (fell_told asked told) ≡ noted_in asked ds (reports ++ map fell told)
+noted_end asked ds noted reports told is =
+    whole_noted asked ds noted (noted_all noted (fell_told asked told)) reports (map fell told) is (ap (noted_all noted) (fell_told_in asked ds told))
+
 -- the text before the summary, and with it
-text_end : (asked : AskedAudit) (ds : List ArrivalValue) (groups : Option Groups) (reports : List Report) (told : List FellDue) (looked : Looked) → groups ≡ grouped_all (groups_begun asked.group) (told_of asked ds reports)
-    → report_lines asked ds reports ++ (lines_at asked None groups (map fell told) ++ closing_text asked.form looked (grouped_all groups (fell_told asked told)) (told_of asked ds reports ++ fell_told asked told))
-    ≡ audit_text asked ds (reports ++ map fell told) looked
-text_end asked ds groups reports told looked is =
+text_end : (asked : AskedAudit) (left_out : LeftOut) (ds : List ArrivalValue) (noted : Noted) (reports : List Report) (told : List FellDue) (looked : Looked) → noted ≡ noted_all (noted_begun asked.group asked.bench) (told_of asked ds reports)
+    → report_lines asked ds reports ++ (lines_at asked None noted (map fell told) ++ closing_text asked.form left_out looked (noted_all noted (fell_told asked told)) (told_of asked ds reports ++ fell_told asked told))
+    ≡ audit_text asked left_out ds (reports ++ map fell told) looked
+text_end asked left_out ds noted reports told looked is =
     let all = told_of asked ds (reports ++ map fell told) in
-    let end = grouped_all groups (fell_told asked told) in
-    let groups_end : end ≡ grouped_all (groups_begun asked.group) all = whole_groups asked ds groups end reports (map fell told) is (ap (grouped_all groups) (fell_told_in asked ds told)) in
-    ap (λ (l : List Report). report_lines asked ds reports ++ (lines_at asked None groups (map fell told) ++ closing_text asked.form looked end l)) (told_end asked ds reports told)
-    ∙ sym (append_assoc (report_lines asked ds reports) (lines_at asked None groups (map fell told)) (closing_text asked.form looked end all))
-    ∙ ap (λ (t : List ℕ). (report_lines asked ds reports ++ t) ++ closing_text asked.form looked end all) (fell_same asked ds None groups told)
-    ∙ ap (λ (t : List ℕ). t ++ closing_text asked.form looked end all) (whole_lines asked ds groups reports (map fell told) is)
-    ∙ ap (λ g. report_lines asked ds (reports ++ map fell told) ++ closing_text asked.form looked g all) groups_end
+    let end = noted_all noted (fell_told asked told) in
+    ap (λ (l : List Report). report_lines asked ds reports ++ (lines_at asked None noted (map fell told) ++ closing_text asked.form left_out looked end l)) (told_end asked ds reports told)
+    ∙ sym (append_assoc (report_lines asked ds reports) (lines_at asked None noted (map fell told)) (closing_text asked.form left_out looked end all))
+    ∙ ap (λ (t : List ℕ). (report_lines asked ds reports ++ t) ++ closing_text asked.form left_out looked end all) (fell_same asked ds None noted told)
+    ∙ ap (λ (t : List ℕ). t ++ closing_text asked.form left_out looked end all) (whole_lines asked ds noted reports (map fell told) is)
+    ∙ ap (λ g. report_lines asked ds (reports ++ map fell told) ++ closing_text asked.form left_out looked g all) (noted_end asked ds noted reports told is)
 
 -- the datagrams of files of which no more come
 whole_datagrams : (asked : AskedAudit) (files : List (List ℕ)) (done items : List Item) → items_of_files files ≡ done ++ items → ((q : IntakeValue) → arrivals asked.wanted.packets q items ≡ [])
@@ -474,10 +477,10 @@ pub counts_now : (asked : AskedAudit) (inputs ares : List (Option (List ℕ))) (
 counts_now asked inputs ares k r before after held audit gone s is =
     subst (λ (l : List ArrivalValue). Counts gone.tally (told_of asked l is.reports) is.looked) (append-nil (came asked is.done)) (is.counts [])
 
-groups_now : (asked : AskedAudit) (inputs ares : List (Option (List ℕ))) (k : ℕ) (r : ReaderValue) (before after : Option (List ℕ)) (held : List ℕ) (audit : Option AuditState) (gone : Gone) (s : IntakeValue)
-    (is : IsAudited asked inputs ares k r before after held audit gone s) → gone.tally.groups ≡ grouped_all (groups_begun asked.group) (told_now asked is.done is.reports)
-groups_now asked inputs ares k r before after held audit gone s is =
-    is.groups [] ∙ ap (λ (l : List ArrivalValue). grouped_all (groups_begun asked.group) (told_of asked l is.reports)) (append-nil (came asked is.done))
+noted_now : (asked : AskedAudit) (inputs ares : List (Option (List ℕ))) (k : ℕ) (r : ReaderValue) (before after : Option (List ℕ)) (held : List ℕ) (audit : Option AuditState) (gone : Gone) (s : IntakeValue)
+    (is : IsAudited asked inputs ares k r before after held audit gone s) → gone.tally.noted ≡ noted_all (noted_begun asked.group asked.bench) (told_now asked is.done is.reports)
+noted_now asked inputs ares k r before after held audit gone s is =
+    is.noted [] ∙ ap (λ (l : List ArrivalValue). noted_all (noted_begun asked.group asked.bench) (told_of asked l is.reports)) (append-nil (came asked is.done))
 
 -- what was told before the end
 sent_before : (asked : AskedAudit) (inputs ares : List (Option (List ℕ))) (k : ℕ) (r : ReaderValue) (before after later : Option (List ℕ)) (held waits : List ℕ) (audit : Option AuditState) (gone : Gone) (s : IntakeValue)
@@ -487,27 +490,33 @@ sent_before asked inputs ares k r before after later held waits audit gone s is 
     (subst (λ (l : List ArrivalValue). Sends before [] after held (report_lines asked l is.reports)) (append-nil (came asked is.done)) (is.sends [])) sends
 
 -- the text of an audit was sent
-abbrev EndText : AskedAudit → ShownRecording → Option (List ℕ) → Option (List ℕ) → List ℕ → List ArrivalValue → Type 0
-EndText asked shown before last rest ds =
+abbrev EndText : AskedAudit → LeftOut → ShownRecording → Option (List ℕ) → Option (List ℕ) → List ℕ → List ArrivalValue → Type 0
+EndText asked left_out shown before last rest ds =
     (reports : List Report) × (told : Tells asked 0 None (seen_in ds) reports)
-    × Sends before [] last rest (audit_text asked ds reports (looked_of asked 0 None (seen_in ds) reports told)) × (shown.outcome ≡ fault_outcome (has_findings (told_of asked ds reports)))
+    × Sends before [] last rest (audit_text asked left_out ds reports (looked_of asked 0 None (seen_in ds) reports told)) × (shown.outcome ≡ fault_outcome (fails (noted_in asked ds reports).weights))
+
+-- what was left out of files of which no more is taken
+left_out_there : (asked : AskedAudit) (files : List (List ℕ)) (done items : List Item) (s : IntakeValue) → items_of_files files ≡ done ++ items → s ≡ taken asked done
+    → ((q : IntakeValue) → after_packets asked.wanted.packets q items ≡ q) → left_out_at s ≡ left_out_in asked files
+left_out_there asked files done items s came took untaken =
+    ap left_out_at (took ∙ sym (ap (after_packets asked.wanted.packets (nothing_taken asked.wanted.packets)) came ∙ after_packets-append asked.wanted.packets (nothing_taken asked.wanted.packets) done items ∙ untaken (taken asked done)))
 
 audit_whole : (asked : AskedAudit) (inputs ares : List (Option (List ℕ))) (k : ℕ) (r : ReaderValue) (before after later last : Option (List ℕ)) (held waits rest : List ℕ) (audit : Option AuditState) (gone : Gone) (s : IntakeValue) (items : List Item) (fault : Option FileFault) (shown : ShownRecording)
     → (is : IsAudited asked inputs ares k r before after held audit gone s) → WholeFiles inputs (is.done ++ items) fault → Sends after held later waits []
     → ((q : IntakeValue) → arrivals asked.wanted.packets q items ≡ []) → ((q : IntakeValue) → after_packets asked.wanted.packets q items ≡ q)
-    → PutsEnd asked gone audit (told_now asked is.done is.reports) is.looked later waits last rest shown → shown.fault ≡ fault → shown.left_out ≡ left_out_at s → PutsAudit inputs asked shown before last rest
-audit_whole asked inputs ares k r before after later last held waits rest audit gone s items fault shown is f sends empty untaken end faulty left =
+    → (left_out : LeftOut) → left_out ≡ left_out_at s → PutsEnd asked left_out gone audit (told_now asked is.done is.reports) is.looked later waits last rest shown → shown.fault ≡ fault → shown.left_out ≡ left_out_at s → PutsAudit inputs asked shown before last rest
+audit_whole asked inputs ares k r before after later last held waits rest audit gone s items fault shown is f sends empty untaken left_out is_left end faulty left =
     let ds = came asked is.done in
     let goes = goes_end asked gone.now audit end.ended (seen_in ds) is.reports is.looked end.told end.ends is.goes in
-    let text : EndText asked shown before last rest (arrivals_in asked.wanted.packets f.files) =
-    subst (EndText asked shown before last rest) (sym (whole_datagrams asked f.files is.done items f.came empty)) (
+    let text : EndText asked left_out shown before last rest (arrivals_in asked.wanted.packets f.files) =
+    subst (EndText asked left_out shown before last rest) (sym (whole_datagrams asked f.files is.done items f.came empty)) (
       is.reports ++ map fell end.told,
       goes.0,
-      subst (λ l. Sends before [] last rest (audit_text asked ds (is.reports ++ map fell end.told) l)) (sym goes.1)
-          (subst (Sends before [] last rest) (text_end asked ds gone.tally.groups is.reports end.told (ended_with end.ended is.looked) (groups_now asked inputs ares k r before after held audit gone s is))
-          (Sends-trans before later last [] waits rest (report_lines asked ds is.reports) (lines_at asked None gone.tally.groups (map fell end.told) ++ closing_text asked.form (ended_with end.ended is.looked) (grouped_all gone.tally.groups (fell_told asked end.told)) (told_now asked is.done is.reports ++ fell_told asked end.told))
+      subst (λ l. Sends before [] last rest (audit_text asked left_out ds (is.reports ++ map fell end.told) l)) (sym goes.1)
+          (subst (Sends before [] last rest) (text_end asked left_out ds gone.tally.noted is.reports end.told (ended_with end.ended is.looked) (noted_now asked inputs ares k r before after held audit gone s is))
+          (Sends-trans before later last [] waits rest (report_lines asked ds is.reports) (lines_at asked None gone.tally.noted (map fell end.told) ++ closing_text asked.form left_out (ended_with end.ended is.looked) (noted_all gone.tally.noted (fell_told asked end.told)) (told_now asked is.done is.reports ++ fell_told asked end.told))
           (sent_before asked inputs ares k r before after later held waits audit gone s is sends) end.sends)),
-      end.outcome ∙ ap (λ (l : List Report). fault_outcome (has_findings l)) (told_end asked ds is.reports end.told),
+      end.outcome ∙ ap (λ (n : Noted). fault_outcome (fails n.weights)) (noted_end asked ds gone.tally.noted is.reports end.told (noted_now asked inputs ares k r before after held audit gone s is)),
     ) in
     record {
       files = f.files;
@@ -515,10 +524,11 @@ audit_whole asked inputs ares k r before after later last held waits rest audit 
       ends = faulty ∙ f.ends;
       reports = text.0;
       told = text.1;
-      sends = text.2;
+      sends = subst (λ (l : LeftOut). Sends before [] last rest (audit_text asked l (arrivals_in asked.wanted.packets f.files) text.0 (looked_of asked 0 None (seen_in (arrivals_in asked.wanted.packets f.files)) text.0 text.1)))
+          (is_left ∙ left_out_there asked f.files is.done items s f.came is.took untaken) text.2;
       tells = text.3;
       full = end.full;
-      counts = left ∙ ap left_out_at (is.took ∙ sym (ap (after_packets asked.wanted.packets (nothing_taken asked.wanted.packets)) f.came ∙ after_packets-append asked.wanted.packets (nothing_taken asked.wanted.packets) is.done items ∙ untaken (taken asked is.done)));
+      counts = left ∙ left_out_there asked f.files is.done items s f.came is.took untaken;
     }
 
 -- no file is left
@@ -526,25 +536,25 @@ whole_end : (asked : AskedAudit) (inputs ares : List (Option (List ℕ))) (k : �
 whole_end asked inputs ares k r done reads past = subst (λ (l : List Item). WholeFiles inputs l None) (sym (append-nil done)) (reads_all inputs ares k r done reads past)
 
 pub audit_ends : (asked : AskedAudit) (inputs ares : List (Option (List ℕ))) (k : ℕ) (r : ReaderValue) (before after last : Option (List ℕ)) (held rest : List ℕ) (audit : Option AuditState) (gone : Gone) (s : IntakeValue) (shown : ShownRecording)
-    → (is : IsAudited asked inputs ares k r before after held audit gone s) → length ares ≤ k → PutsEnd asked gone audit (told_now asked is.done is.reports) is.looked after held last rest shown → shown.fault ≡ None → shown.left_out ≡ left_out_at s
+    → (is : IsAudited asked inputs ares k r before after held audit gone s) → length ares ≤ k → (left_out : LeftOut) → left_out ≡ left_out_at s → PutsEnd asked left_out gone audit (told_now asked is.done is.reports) is.looked after held last rest shown → shown.fault ≡ None → shown.left_out ≡ left_out_at s
     → PutsAudit inputs asked shown before last rest
-audit_ends asked inputs ares k r before after last held rest audit gone s shown is past end faulty left =
-    audit_whole asked inputs ares k r before after after last held held rest audit gone s [] None shown is (whole_end asked inputs ares k r is.done is.reads past) (Sends-nil after held) (λ q. refl) (λ q. refl) end faulty left
+audit_ends asked inputs ares k r before after last held rest audit gone s shown is past left_out is_left end faulty left =
+    audit_whole asked inputs ares k r before after after last held held rest audit gone s [] None shown is (whole_end asked inputs ares k r is.done is.reads past) (Sends-nil after held) (λ q. refl) (λ q. refl) left_out is_left end faulty left
 
 pub audit_fault : (asked : AskedAudit) (inputs ares : List (Option (List ℕ))) (k : ℕ) (r new : ReaderValue) (now before after later last : Option (List ℕ)) (held waits rest : List ℕ) (audit : Option AuditState) (gone : Gone) (s : IntakeValue) (fault : RecordingError) (shown : ShownRecording)
     → (is : IsAudited asked inputs ares k r before after held audit gone s) → k < length ares → Comes r new (left_at ares k) now (Err fault ∷ []) → ((rest : List ℕ) → CanFollow new.is_whole rest → to_come new rest ≡ [])
-    → Sends after held later waits [] → PutsEnd asked gone audit (told_now asked is.done is.reports) is.looked later waits last rest shown → shown.fault ≡ Some (told k fault) → shown.left_out ≡ left_out_at s
+    → Sends after held later waits [] → (left_out : LeftOut) → left_out ≡ left_out_at s → PutsEnd asked left_out gone audit (told_now asked is.done is.reports) is.looked later waits last rest shown → shown.fault ≡ Some (told k fault) → shown.left_out ≡ left_out_at s
     → PutsAudit inputs asked shown before last rest
-audit_fault asked inputs ares k r new now before after later last held waits rest audit gone s fault shown is within comes none sends end faulty left =
+audit_fault asked inputs ares k r new now before after later last held waits rest audit gone s fault shown is within comes none sends left_out is_left end faulty left =
     audit_whole asked inputs ares k r before after later last held waits rest audit gone s (Err fault ∷ []) (Some (told k fault)) shown is
-    (reads_fault inputs ares k r new now is.done fault is.reads within comes none is.none) sends (λ q. refl) (λ q. refl) end faulty left
+    (reads_fault inputs ares k r new now is.done fault is.reads within comes none is.none) sends (λ q. refl) (λ q. refl) left_out is_left end faulty left
 
 -- the text of an audit, of which a beginning was sent
-abbrev StopText : AskedAudit → Option (List ℕ) → Option (List ℕ) → List ArrivalValue → Type 0
-StopText asked before last ds =
-    (reports : List Report) × (told : Tells asked 0 None (seen_in ds) reports) × Stops before [] last (audit_text asked ds reports (looked_of asked 0 None (seen_in ds) reports told))
+abbrev StopText : AskedAudit → LeftOut → Option (List ℕ) → Option (List ℕ) → List ArrivalValue → Type 0
+StopText asked left_out before last ds =
+    (reports : List Report) × (told : Tells asked 0 None (seen_in ds) reports) × Stops before [] last (audit_text asked left_out ds reports (looked_of asked 0 None (seen_in ds) reports told))
 
-begins_whole : (asked : AskedAudit) (inputs : List (Option (List ℕ))) (before last : Option (List ℕ)) (files : List (List ℕ)) → WereLeft inputs files → StopText asked before last (arrivals_in asked.wanted.packets files) → BeginsAudit inputs asked before last
+begins_whole : (asked : AskedAudit) (inputs : List (Option (List ℕ))) (before last : Option (List ℕ)) (files : List (List ℕ)) → WereLeft inputs files → StopText asked (left_out_in asked files) before last (arrivals_in asked.wanted.packets files) → BeginsAudit inputs asked before last
 begins_whole asked inputs before last files left text = record {
   files = files;
   left = left;
@@ -555,51 +565,53 @@ begins_whole asked inputs before last files left text = record {
 }
 
 -- some of what fell due at the end
-record Fallen (asked : AskedAudit) (now : ℕ) (audit : Option AuditState) (groups : Option Groups) (a : Option (List ℕ)) (held : List ℕ) (b : Option (List ℕ)) : Type 0 where
+record Fallen (asked : AskedAudit) (now : ℕ) (audit : Option AuditState) (noted : Noted) (a : Option (List ℕ)) (held : List ℕ) (b : Option (List ℕ)) : Type 0 where
   told : List FellDue
   some : TellsSome asked now audit [] (map fell told)
-  stops : Stops a held b (lines_at asked None groups (map fell told))
+  stops : Stops a held b (lines_at asked None noted (map fell told))
 
-last_stops : (asked : AskedAudit) (now : ℕ) (audit : Option AuditState) (groups : Option Groups) (a : Option (List ℕ)) (held : List ℕ) (b : Option (List ℕ)) → StopsLast asked now audit groups a held b → Fallen asked now audit groups a held b
-last_stops asked now None groups a held b stops = absurd stops
-last_stops asked now (Some state) groups a held b stops = record { told = stops.told; some = (stops.told, stops.some, refl); stops = stops.stops }
+last_stops : (asked : AskedAudit) (now : ℕ) (audit : Option AuditState) (noted : Noted) (a : Option (List ℕ)) (held : List ℕ) (b : Option (List ℕ)) → StopsLast asked now audit noted a held b → Fallen asked now audit noted a held b
+last_stops asked now None noted a held b stops = absurd stops
+last_stops asked now (Some state) noted a held b stops = record { told = stops.told; some = (stops.told, stops.some, refl); stops = stops.stops }
 
 whole_stops : (asked : AskedAudit) (inputs ares : List (Option (List ℕ))) (k : ℕ) (r : ReaderValue) (before after later last : Option (List ℕ)) (held waits : List ℕ) (audit : Option AuditState) (gone : Gone) (s : IntakeValue) (items : List Item) (fault : Option FileFault)
     → (is : IsAudited asked inputs ares k r before after held audit gone s) → WholeFiles inputs (is.done ++ items) fault → Sends after held later waits []
-    → ((q : IntakeValue) → arrivals asked.wanted.packets q items ≡ []) → StopsEnd asked gone audit (told_now asked is.done is.reports) is.looked later waits last → BeginsAudit inputs asked before last
-whole_stops asked inputs ares k r before after later last held waits audit gone s items fault is f sends empty (inl stops) =
+    → ((q : IntakeValue) → arrivals asked.wanted.packets q items ≡ []) → ((q : IntakeValue) → after_packets asked.wanted.packets q items ≡ q)
+    → (left_out : LeftOut) → left_out ≡ left_out_at s → StopsEnd asked left_out gone audit (told_now asked is.done is.reports) is.looked later waits last → BeginsAudit inputs asked before last
+whole_stops asked inputs ares k r before after later last held waits audit gone s items fault is f sends empty untaken left_out is_left (inl stops) =
     let ds = came asked is.done in
-    let fallen = last_stops asked gone.now audit gone.tally.groups later waits last stops in
+    let fallen = last_stops asked gone.now audit gone.tally.noted later waits last stops in
     begins_some asked inputs before last f.files f.left ds (whole_datagrams asked f.files is.done items f.came empty) (is.reports ++ map fell fallen.told)
     (subst (λ (l : List Seen). TellsSome asked 0 None l (is.reports ++ map fell fallen.told)) (append-nil (seen_in ds)) (is.some [] (map fell fallen.told) fallen.some))
     (subst (Stops before [] last)
-    (ap (λ (t : List ℕ). report_lines asked ds is.reports ++ t) (fell_same asked ds None gone.tally.groups fallen.told)
-    ∙ whole_lines asked ds gone.tally.groups is.reports (map fell fallen.told) (groups_now asked inputs ares k r before after held audit gone s is))
-    (Stops-after before later last [] waits (report_lines asked ds is.reports) (lines_at asked None gone.tally.groups (map fell fallen.told)) (sent_before asked inputs ares k r before after later held waits audit gone s is sends) fallen.stops))
-whole_stops asked inputs ares k r before after later last held waits audit gone s items fault is f sends empty (inr end) =
+    (ap (λ (t : List ℕ). report_lines asked ds is.reports ++ t) (fell_same asked ds None gone.tally.noted fallen.told)
+    ∙ whole_lines asked ds gone.tally.noted is.reports (map fell fallen.told) (noted_now asked inputs ares k r before after held audit gone s is))
+    (Stops-after before later last [] waits (report_lines asked ds is.reports) (lines_at asked None gone.tally.noted (map fell fallen.told)) (sent_before asked inputs ares k r before after later held waits audit gone s is sends) fallen.stops))
+whole_stops asked inputs ares k r before after later last held waits audit gone s items fault is f sends empty untaken left_out is_left (inr end) =
     let ds = came asked is.done in
     let goes = goes_end asked gone.now audit end.ended (seen_in ds) is.reports is.looked end.told end.ends is.goes in
     begins_whole asked inputs before last f.files f.left
-    (subst (StopText asked before last) (sym (whole_datagrams asked f.files is.done items f.came empty)) (
+    (subst (λ (l : LeftOut). StopText asked l before last (arrivals_in asked.wanted.packets f.files)) (is_left ∙ left_out_there asked f.files is.done items s f.came is.took untaken)
+    (subst (StopText asked left_out before last) (sym (whole_datagrams asked f.files is.done items f.came empty)) (
       is.reports ++ map fell end.told,
       goes.0,
-      subst (λ l. Stops before [] last (audit_text asked ds (is.reports ++ map fell end.told) l)) (sym goes.1)
-          (subst (Stops before [] last) (text_end asked ds gone.tally.groups is.reports end.told (ended_with end.ended is.looked) (groups_now asked inputs ares k r before after held audit gone s is))
-          (Stops-after before later last [] waits (report_lines asked ds is.reports) (lines_at asked None gone.tally.groups (map fell end.told) ++ closing_text asked.form (ended_with end.ended is.looked) (grouped_all gone.tally.groups (fell_told asked end.told)) (told_now asked is.done is.reports ++ fell_told asked end.told))
+      subst (λ l. Stops before [] last (audit_text asked left_out ds (is.reports ++ map fell end.told) l)) (sym goes.1)
+          (subst (Stops before [] last) (text_end asked left_out ds gone.tally.noted is.reports end.told (ended_with end.ended is.looked) (noted_now asked inputs ares k r before after held audit gone s is))
+          (Stops-after before later last [] waits (report_lines asked ds is.reports) (lines_at asked None gone.tally.noted (map fell end.told) ++ closing_text asked.form left_out (ended_with end.ended is.looked) (noted_all gone.tally.noted (fell_told asked end.told)) (told_now asked is.done is.reports ++ fell_told asked end.told))
           (sent_before asked inputs ares k r before after later held waits audit gone s is sends) end.stops)),
-    ))
+    )))
 
 pub audit_end_stops : (asked : AskedAudit) (inputs ares : List (Option (List ℕ))) (k : ℕ) (r : ReaderValue) (before after last : Option (List ℕ)) (held : List ℕ) (audit : Option AuditState) (gone : Gone) (s : IntakeValue)
-    → (is : IsAudited asked inputs ares k r before after held audit gone s) → length ares ≤ k → StopsEnd asked gone audit (told_now asked is.done is.reports) is.looked after held last → BeginsAudit inputs asked before last
-audit_end_stops asked inputs ares k r before after last held audit gone s is past stops =
-    whole_stops asked inputs ares k r before after after last held held audit gone s [] None is (whole_end asked inputs ares k r is.done is.reads past) (Sends-nil after held) (λ q. refl) stops
+    → (is : IsAudited asked inputs ares k r before after held audit gone s) → length ares ≤ k → (left_out : LeftOut) → left_out ≡ left_out_at s → StopsEnd asked left_out gone audit (told_now asked is.done is.reports) is.looked after held last → BeginsAudit inputs asked before last
+audit_end_stops asked inputs ares k r before after last held audit gone s is past left_out is_left stops =
+    whole_stops asked inputs ares k r before after after last held held audit gone s [] None is (whole_end asked inputs ares k r is.done is.reads past) (Sends-nil after held) (λ q. refl) (λ q. refl) left_out is_left stops
 
 pub audit_fault_stops : (asked : AskedAudit) (inputs ares : List (Option (List ℕ))) (k : ℕ) (r new : ReaderValue) (now before after later last : Option (List ℕ)) (held waits : List ℕ) (audit : Option AuditState) (gone : Gone) (s : IntakeValue) (fault : RecordingError)
     → (is : IsAudited asked inputs ares k r before after held audit gone s) → k < length ares → Comes r new (left_at ares k) now (Err fault ∷ []) → ((rest : List ℕ) → CanFollow new.is_whole rest → to_come new rest ≡ [])
-    → Sends after held later waits [] → StopsEnd asked gone audit (told_now asked is.done is.reports) is.looked later waits last → BeginsAudit inputs asked before last
-audit_fault_stops asked inputs ares k r new now before after later last held waits audit gone s fault is within comes none sends stops =
+    → Sends after held later waits [] → (left_out : LeftOut) → left_out ≡ left_out_at s → StopsEnd asked left_out gone audit (told_now asked is.done is.reports) is.looked later waits last → BeginsAudit inputs asked before last
+audit_fault_stops asked inputs ares k r new now before after later last held waits audit gone s fault is within comes none sends left_out is_left stops =
     whole_stops asked inputs ares k r before after later last held waits audit gone s (Err fault ∷ []) (Some (told k fault)) is
-    (reads_fault inputs ares k r new now is.done fault is.reads within comes none is.none) sends (λ q. refl) stops
+    (reads_fault inputs ares k r new now is.done fault is.reads within comes none is.none) sends (λ q. refl) (λ q. refl) left_out is_left stops
 
 -- ---- what waited in the buffer
 
@@ -607,14 +619,14 @@ pub puts_begun : (asked : AskedAudit) (inputs : List (Option (List ℕ))) (befor
     → Stops later waits last [] → BeginsAudit inputs asked before last
 puts_begun asked inputs before later last waits shown p stops =
     let ds = arrivals_in asked.wanted.packets p.files in
-    let text = audit_text asked ds p.reports (looked_of asked 0 None (seen_in ds) p.reports p.told) in
+    let text = audit_text asked (left_out_in asked p.files) ds p.reports (looked_of asked 0 None (seen_in ds) p.reports p.told) in
     begins_whole asked inputs before last p.files p.left (p.reports, p.told, Stops-flush before later last [] waits text p.sends stops)
 
 pub puts_shown : (asked : AskedAudit) (inputs : List (Option (List ℕ))) (before later last : Option (List ℕ)) (waits new : List ℕ) (shown : ShownRecording) → PutsAudit inputs asked shown before later waits
     → Sends later waits last new [] → new ≡ [] → ShowsAudit inputs asked shown before last
 puts_shown asked inputs before later last waits new shown p sends empty =
     let ds = arrivals_in asked.wanted.packets p.files in
-    let text = audit_text asked ds p.reports (looked_of asked 0 None (seen_in ds) p.reports p.told) in
+    let text = audit_text asked (left_out_in asked p.files) ds p.reports (looked_of asked 0 None (seen_in ds) p.reports p.told) in
     record {
       files = p.files;
       left = p.left;

@@ -1,5 +1,5 @@
 -- What an audit tells of the datagrams that come, and of those after them.
-use Rattle.std.proofs.Common.{◌≡◌, ℕ, ◌+◌, ◌-◌, Bool, true, false, List, [], ◌∷◌, ◌++◌, map, filter, if◌then◌else◌, length, Option, Some, None, refl, sym, ap, subst, ◌∙◌, inl, inr, arith, add-zero, suc}
+use Rattle.std.proofs.Common.{◌≡◌, ℕ, ◌+◌, ◌-◌, true, false, List, [], ◌∷◌, ◌++◌, map, if◌then◌else◌, length, Option, Some, None, refl, sym, ap, subst, ◌∙◌, inl, inr, arith, add-zero, suc}
 use Rattle.std.specs.Prelude.{◌⊎◌, slice_get, option_and_then}
 use Rattle.std.specs.List.{flat_map}
 use Rattle.std.proofs.lemmas.List.{append-nil}
@@ -7,9 +7,10 @@ use Rattle.std.proofs.lemmas.List.Elements.{filter-append}
 use Rattle.recording.specs.declared.Time.{Time}
 use Rattle.recording_packets.specs.Intake.{ArrivalValue}
 use Rattle.someip_tables.specs.declared.hashed.Origin.{Origin}
+use Rattle.audit_rules.specs.Weighing.{weights_begun}
 use Rattle.someip_audit.specs.declared.FellDue.{FellDue}
 use Rattle.someip_audit.specs.declared.Finding.{Finding}
-use Rattle.someip_audit.specs.groups.GroupTables.{Groups}
+use Rattle.someipctl_recordings.specs.declared.audit.noted.Noted.{Noted}
 use Rattle.someip_audit.specs.Audits.{AuditState, Hears, Report, Seen, fell, found, seen_messages, seen_shown}
 use Rattle.someipctl_recordings.specs.Moments.{moment_of}
 use Rattle.someip_audit.specs.FellDues.{deadline}
@@ -17,8 +18,8 @@ use Rattle.someipctl_recordings.specs.Wanted.{WantedValue}
 use Rattle.someipctl_recordings.specs.declared.audit.audits.Gone.{Gone}
 use Rattle.someipctl_recordings.specs.declared.audit.subject.Subject.{Subject}
 use Rattle.someipctl_recordings.specs.audit.AskedAudits.{AskedAudit}
-use Rattle.someipctl_recordings.specs.audit.AuditText.{Looked, finding_line, is_due_told, is_found_told, is_report_told, line_of_report, origin_of_due, report_lines, shown_lines, time_at, time_of, told_of}
-use Rattle.someipctl_recordings.specs.audit.Groupings.{groups_begun}
+use Rattle.someipctl_recordings.specs.audit.AuditText.{Looked, finding_line, is_due_told, is_found_told, is_report_allowed, is_report_told, line_of_report, origin_of_due, report_lines, shown_lines, time_at, time_of, told_of}
+use Rattle.someipctl_recordings.specs.audit.Notes.{noted_begun}
 use Rattle.someipctl_recordings.specs.audit.Subjects.{ChoosesNone, is_told, subject, subject_of_due}
 use Rattle.someipctl_recordings.specs.audit.SeenIn.{ended_with, AuditsSome, StopsAt, Tells, TellsSome, audit_at, looked_more, looked_of, none_looked, seen_from, seen_in, seen_next}
 use Rattle.someipctl_recordings.specs.audit.Steps.{fell_told, is_told_at, line_at, lines_at, told_at}
@@ -102,36 +103,36 @@ heard_told asked all time seen state after told is hears =
 -- ---- their lines
 
 -- of what fell due each is as of any datagrams
-pub fell_same : (asked : AskedAudit) (all : List ArrivalValue) (time : Option Time) (groups : Option Groups) (told : List FellDue)
-    → lines_at asked time groups (map fell told) ≡ shown_lines (line_of_report asked all) groups (told_of asked all (map fell told))
-fell_same asked all time groups told =
-    same_lines (line_at asked time) (line_of_report asked all) groups (told_at asked time (map fell told))
+pub fell_same : (asked : AskedAudit) (all : List ArrivalValue) (time : Option Time) (noted : Noted) (told : List FellDue)
+    → lines_at asked time noted (map fell told) ≡ shown_lines (line_of_report asked all) noted (told_of asked all (map fell told))
+fell_same asked all time noted told =
+    same_lines (line_at asked time) (line_of_report asked all) noted (told_at asked time (map fell told))
     (all_filter (line_at asked time) (line_of_report asked all) (is_told_at asked time) (map fell told) (all_fell (line_at asked time) (line_of_report asked all) (λ one. refl) told))
-    ∙ ap (shown_lines (line_of_report asked all) groups) (sym (fell_told_at asked time told) ∙ fell_told_in asked all told)
+    ∙ ap (shown_lines (line_of_report asked all) noted) (sym (fell_told_at asked time told) ∙ fell_told_in asked all told)
 
-pub heard_same : (asked : AskedAudit) (all : List ArrivalValue) (time : Option Time) (seen : Seen) (state after : AuditState) (groups : Option Groups) (told : List Report) → time_of all seen.origin.numbers.datagram ≡ time
-    → Hears state seen told after → lines_at asked time groups told ≡ shown_lines (line_of_report asked all) groups (told_of asked all told)
-heard_same asked all time seen state after groups told is hears =
-    same_lines (line_at asked time) (line_of_report asked all) groups (told_at asked time told)
+pub heard_same : (asked : AskedAudit) (all : List ArrivalValue) (time : Option Time) (seen : Seen) (state after : AuditState) (noted : Noted) (told : List Report) → time_of all seen.origin.numbers.datagram ≡ time
+    → Hears state seen told after → lines_at asked time noted told ≡ shown_lines (line_of_report asked all) noted (told_of asked all told)
+heard_same asked all time seen state after noted told is hears =
+    same_lines (line_at asked time) (line_of_report asked all) noted (told_at asked time told)
     (all_filter (line_at asked time) (line_of_report asked all) (is_told_at asked time) told (subst (AllSame (line_at asked time) (line_of_report asked all)) (sym hears.reported) each))
-    ∙ ap (shown_lines (line_of_report asked all) groups) (heard_told asked all time seen state after told is hears)
+    ∙ ap (shown_lines (line_of_report asked all) noted) (heard_told asked all time seen state after told is hears)
   where
     each : AllSame (line_at asked time) (line_of_report asked all) (map fell hears.told ++ map (found seen.origin) (seen_shown seen hears.between))
     each =
         all_append (line_at asked time) (line_of_report asked all) (map fell hears.told) (map (found seen.origin) (seen_shown seen hears.between))
         (all_fell (line_at asked time) (line_of_report asked all) (λ one. refl) hears.told)
-        (all_found (line_at asked time) (line_of_report asked all) seen.origin (λ finding. ap (λ t. finding_line asked.form asked.frames t seen.origin finding) (sym is)) (seen_shown seen hears.between))
+        (all_found (line_at asked time) (line_of_report asked all) seen.origin (λ finding. ap (λ t. finding_line asked.form asked.frames (is_report_allowed asked (found seen.origin finding)) t seen.origin finding) (sym is)) (seen_shown seen hears.between))
 
-pub some_same : (asked : AskedAudit) (all : List ArrivalValue) (time : Option Time) (seen : Seen) (state : AuditState) (groups : Option Groups) (told : List Report) → time_of all seen.origin.numbers.datagram ≡ time
-    → StopsAt seen.now state told ⊎ ((after : AuditState) × Hears state seen told after) → lines_at asked time groups told ≡ shown_lines (line_of_report asked all) groups (told_of asked all told)
-some_same asked all time seen state groups told is (inl s) =
-    ap (lines_at asked time groups) s.2 ∙ fell_same asked all time groups s.0 ∙ ap (λ (l : List Report). shown_lines (line_of_report asked all) groups (told_of asked all l)) (sym s.2)
-some_same asked all time seen state groups told is (inr s) = heard_same asked all time seen state s.0 groups told is s.1
+pub some_same : (asked : AskedAudit) (all : List ArrivalValue) (time : Option Time) (seen : Seen) (state : AuditState) (noted : Noted) (told : List Report) → time_of all seen.origin.numbers.datagram ≡ time
+    → StopsAt seen.now state told ⊎ ((after : AuditState) × Hears state seen told after) → lines_at asked time noted told ≡ shown_lines (line_of_report asked all) noted (told_of asked all told)
+some_same asked all time seen state noted told is (inl s) =
+    ap (lines_at asked time noted) s.2 ∙ fell_same asked all time noted s.0 ∙ ap (λ (l : List Report). shown_lines (line_of_report asked all) noted (told_of asked all l)) (sym s.2)
+some_same asked all time seen state noted told is (inr s) = heard_same asked all time seen state s.0 noted told is s.1
 
 -- the lines are those of what is told, where findings are not grouped
 pub lines_are_of_told : (asked : AskedAudit) (all : List ArrivalValue) (reports : List Report) → asked.group ≡ false → report_lines asked all reports ≡ flat_map (line_of_report asked all) (told_of asked all reports)
 lines_are_of_told asked all reports alone =
-    ap (λ g. shown_lines (line_of_report asked all) (groups_begun g) (told_of asked all reports)) alone ∙ all_shown (line_of_report asked all) (told_of asked all reports)
+    ap (λ g. shown_lines (line_of_report asked all) (noted_begun g asked.bench) (told_of asked all reports)) alone ∙ all_shown (line_of_report asked all) (weights_begun asked.bench) (told_of asked all reports)
 
 -- where nothing is chosen, each finding is told
 always : (w : WantedValue) (time : Option Time) (origin : Origin) (subject : Option Subject) → ChoosesNone w → is_told w time origin subject ≡ true

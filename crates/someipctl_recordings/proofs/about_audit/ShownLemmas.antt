@@ -1,30 +1,32 @@
 -- The lines of reports, of which those of a group beyond the third are left out.
 use Rattle.std.specs.Prelude.{⊤}
-use Rattle.std.proofs.Common.{◌≡◌, ℕ, Bool, true, false, List, [], ◌∷◌, ◌++◌, map, filter, if◌then◌else◌, Option, None, refl, sym, ap, ◌∙◌, append_assoc}
+use Rattle.std.proofs.Common.{◌≡◌, ℕ, Bool, true, false, List, [], ◌∷◌, ◌++◌, map, filter, if◌then◌else◌, None, refl, sym, ap, ◌∙◌, append_assoc}
 use Rattle.std.specs.List.{flat_map}
 use Rattle.someip_tables.specs.declared.hashed.Origin.{Origin}
 use Rattle.someip_audit.specs.declared.FellDue.{FellDue}
 use Rattle.someip_audit.specs.declared.Finding.{Finding}
-use Rattle.someip_audit.specs.groups.GroupTables.{Groups}
+use Rattle.audit_rules.specs.Weighing.{Weights, weighed}
+use Rattle.someipctl_recordings.specs.declared.audit.noted.Noted.{Noted}
 use Rattle.someip_audit.specs.Audits.{Report, fell, found}
-use Rattle.someipctl_recordings.specs.audit.AuditText.{group_of, grouped_all, line_if, shown_lines}
-use Rattle.someipctl_recordings.specs.audit.Groupings.{grouped, is_shown}
+use Rattle.someipctl_recordings.specs.audit.AuditText.{group_of, noted_all, line_if, shown_lines}
+use Rattle.someipctl_recordings.specs.audit.Notes.{note, is_shown}
 
-pub grouped_all-append : (groups : Option Groups) (one more : List Report) → grouped_all groups (one ++ more) ≡ grouped_all (grouped_all groups one) more
-grouped_all-append groups [] more = refl
-grouped_all-append groups (report ∷ one) more = grouped_all-append (grouped (group_of report) groups) one more
+pub noted_all-append : (noted : Noted) (one more : List Report) → noted_all noted (one ++ more) ≡ noted_all (noted_all noted one) more
+noted_all-append noted [] more = refl
+noted_all-append noted (report ∷ one) more = noted_all-append (note (group_of report) noted) one more
 
-pub shown_lines-append : (line : Report → List ℕ) (groups : Option Groups) (one more : List Report)
-    → shown_lines line groups (one ++ more) ≡ shown_lines line groups one ++ shown_lines line (grouped_all groups one) more
-shown_lines-append line groups [] more = refl
-shown_lines-append line groups (report ∷ one) more =
-    ap (λ (t : List ℕ). line_if (is_shown groups (group_of report)) (line report) ++ t) (shown_lines-append line (grouped (group_of report) groups) one more)
-    ∙ sym (append_assoc (line_if (is_shown groups (group_of report)) (line report)) (shown_lines line (grouped (group_of report) groups) one) (shown_lines line (grouped_all (grouped (group_of report) groups) one) more))
+pub shown_lines-append : (line : Report → List ℕ) (noted : Noted) (one more : List Report)
+    → shown_lines line noted (one ++ more) ≡ shown_lines line noted one ++ shown_lines line (noted_all noted one) more
+shown_lines-append line noted [] more = refl
+shown_lines-append line noted (report ∷ one) more =
+    ap (λ (t : List ℕ). line_if (is_shown noted (group_of report)) (line report) ++ t) (shown_lines-append line (note (group_of report) noted) one more)
+    ∙ sym (append_assoc (line_if (is_shown noted (group_of report)) (line report)) (shown_lines line (note (group_of report) noted) one) (shown_lines line (noted_all (note (group_of report) noted) one) more))
 
--- without groups each has its line
-pub all_shown : (line : Report → List ℕ) (reports : List Report) → shown_lines line None reports ≡ flat_map line reports
-all_shown line [] = refl
-all_shown line (report ∷ reports) = ap (λ (t : List ℕ). line report ++ t) (all_shown line reports)
+-- each has its line where none are grouped
+pub all_shown : (line : Report → List ℕ) (weights : Weights) (reports : List Report) → shown_lines line (record { groups = None; weights = weights }) reports ≡ flat_map line reports
+all_shown line weights [] = refl
+all_shown line weights (report ∷ reports) =
+    ap (λ (t : List ℕ). line report ++ t) (all_shown line (weighed (group_of report).kind (group_of report).service (group_of report).method weights) reports)
 
 -- ---- lines that are the same
 
@@ -33,11 +35,11 @@ AllSame line other [] = ⊤
 AllSame line other (report ∷ reports) = (line report ≡ other report) × AllSame line other reports
 
 module _ (line other : Report → List ℕ) where
-  pub same_lines : (groups : Option Groups) (reports : List Report) → AllSame line other reports → shown_lines line groups reports ≡ shown_lines other groups reports
-  same_lines groups [] same = refl
-  same_lines groups (report ∷ reports) same =
-      ap (λ (t : List ℕ). line_if (is_shown groups (group_of report)) t ++ shown_lines line (grouped (group_of report) groups) reports) same.0
-      ∙ ap (λ (t : List ℕ). line_if (is_shown groups (group_of report)) (other report) ++ t) (same_lines (grouped (group_of report) groups) reports same.1)
+  pub same_lines : (noted : Noted) (reports : List Report) → AllSame line other reports → shown_lines line noted reports ≡ shown_lines other noted reports
+  same_lines noted [] same = refl
+  same_lines noted (report ∷ reports) same =
+      ap (λ (t : List ℕ). line_if (is_shown noted (group_of report)) t ++ shown_lines line (note (group_of report) noted) reports) same.0
+      ∙ ap (λ (t : List ℕ). line_if (is_shown noted (group_of report)) (other report) ++ t) (same_lines (note (group_of report) noted) reports same.1)
 
   pub all_append : (one more : List Report) → AllSame line other one → AllSame line other more → AllSame line other (one ++ more)
   all_append [] more same rest = rest

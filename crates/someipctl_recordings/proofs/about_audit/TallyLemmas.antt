@@ -4,18 +4,19 @@ use Rattle.std.proofs.lemmas.Bool.{eqb-false}
 use Rattle.std.proofs.lemmas.List.{get_or-set_other, get_or-set_same, length-set}
 use Rattle.std.proofs.lemmas.List.Sums.{sum_by_push}
 use Rattle.std.specs.List.{flat_map, slice_index, slice_set}
-use Rattle.someip_audit.specs.groups.GroupTables.{Groups}
+use Rattle.someipctl_recordings.specs.declared.audit.noted.Noted.{Noted}
+use Rattle.recording_packets.specs.declared.LeftOut.{LeftOut}
 use Rattle.someip_audit.specs.Audits.{AuditState, Report}
 use Rattle.someipctl_io.specs.declared.form.Form.{Form}
 use Rattle.someipctl_io.specs.declared.form.Form.TheVariants.{Json, Plain}
 use Rattle.someipctl_io.specs.Sending.{Sends, Stops}
-use Rattle.someipctl_recordings.specs.declared.audit.kind.Kind.{Kind}
-use Rattle.someipctl_recordings.specs.declared.audit.kind.Kind.TheVariants.{Malformed}
+use Rattle.audit_rules.specs.declared.kind.Kind.{Kind}
+use Rattle.audit_rules.specs.declared.kind.Kind.TheVariants.{Malformed}
 use Rattle.someipctl_recordings.specs.declared.audit.tally.Tally.{Tally}
-use Rattle.someipctl_recordings.specs.audit.Kinds.{all_kinds, kind_number}
+use Rattle.audit_rules.specs.Kinds.{all_kinds, kind_number}
 use Rattle.someipctl_recordings.specs.audit.AuditText.{Looked, audited_line, closing_text, count_of, kind_line, kind_of, summary_text}
 use Rattle.someipctl_recordings.specs.audit.SeenIn.{ended_with}
-use Rattle.someipctl_recordings.specs.audit.Groupings.{groups_text}
+use Rattle.someipctl_recordings.specs.audit.Notes.{noted_text}
 use Rattle.someipctl_recordings.specs.audit.Unjudged.{unjudged_text}
 use Rattle.someipctl_recordings.specs.audit.Tallies.{Counts, tally_after, tally_kinds, looked_in, tally_line}
 
@@ -41,24 +42,24 @@ same_summary form t reports looked counts =
 
 -- ---- the summary, and what an audit could not judge at its end
 
-module _ (ended : Option AuditState) (looked : Looked) (groups : Option Groups) (reports : List Report) where
+module _ (left_out : LeftOut) (ended : Option AuditState) (looked : Looked) (noted : Noted) (reports : List Report) where
   pub closing_sends : (form : Form) (a : Option (List ℕ)) (held : List ℕ) (b : Option (List ℕ)) (waits : List ℕ)
-      → Sends a held b waits (summary_text form looked reports ++ (groups_text form groups ++ unjudged_text form looked.passed ended))
-      → Sends a held b waits (closing_text form (ended_with ended looked) groups reports)
+      → Sends a held b waits (summary_text form looked reports ++ (noted_text form noted ++ unjudged_text form left_out looked.passed ended))
+      → Sends a held b waits (closing_text form left_out (ended_with ended looked) noted reports)
   closing_sends Plain a held b waits sends = sends
   closing_sends Json a held b waits sends = sends
 
   pub closing_stops : (form : Form) (a : Option (List ℕ)) (held : List ℕ) (b : Option (List ℕ))
-      → Stops a held b (summary_text form looked reports ++ (groups_text form groups ++ unjudged_text form looked.passed ended))
-      → Stops a held b (closing_text form (ended_with ended looked) groups reports)
+      → Stops a held b (summary_text form looked reports ++ (noted_text form noted ++ unjudged_text form left_out looked.passed ended))
+      → Stops a held b (closing_text form left_out (ended_with ended looked) noted reports)
   closing_stops Plain a held b stops = stops
   closing_stops Json a held b stops = stops
 
 -- ---- one more
 
--- groups are counted apart
-pub counts_regrouped : (t : Tally) (groups : Option Groups) (reports : List Report) (looked : Looked) → Counts t reports looked → Counts (record t { groups = groups }) reports looked
-counts_regrouped t groups reports looked counts = record {
+-- what is noted is counted apart
+pub counts_regrouped : (t : Tally) (noted : Noted) (reports : List Report) (looked : Looked) → Counts t reports looked → Counts (record t { noted = noted }) reports looked
+counts_regrouped t noted reports looked counts = record {
   datagrams = counts.datagrams;
   messages = counts.messages;
   passed = counts.passed;

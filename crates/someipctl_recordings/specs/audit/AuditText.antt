@@ -5,6 +5,7 @@ use Rattle.std.specs.Option.{option_and_then}
 use Rattle.std.specs.Net.Text.{socket_v4_text}
 use Rattle.recording.specs.declared.Time.{Time}
 use Rattle.recording_packets.specs.Intake.{ArrivalValue}
+use Rattle.recording_packets.specs.declared.LeftOut.{LeftOut}
 use Rattle.someip_tables.specs.declared.hashed.Origin.{Origin}
 use Rattle.someip_audit.specs.declared.Finding.{Finding}
 use Rattle.someip_audit.specs.declared.FellDue.{FellDue}
@@ -19,29 +20,35 @@ use Rattle.someipctl_io.specs.ToldLines.{ToldField, ToldHead, ToldLine, field, l
 use Rattle.someip_texts.specs.Words.{spaced}
 use Rattle.someipctl_show.specs.VerdictForms.{no_head, wordless}
 use Rattle.someipctl_recordings.specs.RecordedText.{frame_text, text_if, time_text}
-use Rattle.someipctl_recordings.specs.declared.audit.kind.Kind.{Kind}
+use Rattle.audit_rules.specs.declared.kind.Kind.{Kind}
 use Rattle.someipctl_recordings.specs.audit.AskedAudits.{AskedAudit}
-use Rattle.someipctl_recordings.specs.audit.Kinds.{all_kinds, kind_name, kind_number, kind_words}
+use Rattle.audit_rules.specs.Kinds.{all_kinds, kind_name, kind_number, kind_words}
 use Rattle.someipctl_recordings.specs.audit.Said.{Said, said, said_of_due, said_text}
 use Rattle.someipctl_recordings.specs.audit.ToldFindings.{audit_head, due_told, finding_told, kind_told}
 use Rattle.someipctl_recordings.specs.audit.Subjects.{is_told, subject, subject_of_due}
 use Rattle.someipctl_recordings.specs.audit.Unjudged.{unjudged_text}
-use Rattle.someipctl_recordings.specs.audit.Groupings.{group_key, grouped, groups_begun, groups_text, is_shown}
-use Rattle.someip_audit.specs.groups.GroupTables.{Groups}
+use Rattle.someipctl_recordings.specs.audit.Groupings.{group_key}
+use Rattle.someipctl_recordings.specs.audit.Notes.{is_allowed, is_shown, note, noted_begun, noted_text}
+use Rattle.someipctl_recordings.specs.declared.audit.noted.Noted.{Noted}
 use Rattle.someip_audit.specs.declared.groups.GroupKey.{GroupKey}
 
 -- ---- a plain line
 
+-- that it is allowed, where it is
+abbrev pub allowed_word : Bool → List ℕ
+allowed_word true = codes " allowed"
+allowed_word false = []
+
 -- what stands before what is said: the number of the packet, if it is asked for, a time, the number of the datagram, where it came
--- from and where it went to
-abbrev pub head_text : Bool → Option Time → Origin → List ℕ
-head_text frames time origin =
+-- from and where it went to, and that it is allowed, where it is
+abbrev pub head_text : Bool → Bool → Option Time → Origin → List ℕ
+head_text frames allowed time origin =
     text_if frames (frame_text origin.numbers.frame)
-    ++ (time_text time ++ spaced (decimal origin.numbers.datagram ∷ socket_v4_text origin.from ∷ socket_v4_text origin.to ∷ []))
+    ++ ((time_text time ++ spaced (decimal origin.numbers.datagram ∷ socket_v4_text origin.from ∷ socket_v4_text origin.to ∷ [])) ++ allowed_word allowed)
 
 -- that, and the words of what is said
-abbrev pub line_of : Bool → Option Time → Origin → Said → List ℕ
-line_of frames time origin s = head_text frames time origin ++ said_text s
+abbrev pub line_of : Bool → Bool → Option Time → Origin → Said → List ℕ
+line_of frames allowed time origin s = head_text frames allowed time origin ++ said_text s
 
 -- ---- a line in a form
 
@@ -63,13 +70,13 @@ origin_of_due (due.Expired told) = told.offer.origin
 origin_of_due (due.SubscribeUnanswered told) = told.origin
 origin_of_due (due.EventLost told) = record { numbers = told.numbers; from = told.shown_by.sender; to = told.shown_by.receiver }
 
--- the line of what fell due, at its deadline
-abbrev pub due_line : Form → Bool → FellDue → List ℕ
-due_line form frames told = line_text form (audit_head frames (Some (time_at (deadline told))) (origin_of_due told)) (due_told told)
+-- the line of what fell due, at its deadline; it may be allowed
+abbrev pub due_line : Form → Bool → Bool → FellDue → List ℕ
+due_line form frames allowed told = line_text form (audit_head frames allowed (Some (time_at (deadline told))) (origin_of_due told)) (due_told told)
 
--- the line of a finding of a datagram with this time
-abbrev pub finding_line : Form → Bool → Option Time → Origin → Finding → List ℕ
-finding_line form frames time origin finding = line_text form (audit_head frames time origin) (finding_told finding)
+-- the line of a finding of a datagram with this time, which may be allowed
+abbrev pub finding_line : Form → Bool → Bool → Option Time → Origin → Finding → List ℕ
+finding_line form frames allowed time origin finding = line_text form (audit_head frames allowed time origin) (finding_told finding)
 
 -- what fell due is told
 abbrev pub is_due_told : AskedAudit → FellDue → Bool
@@ -92,30 +99,38 @@ is_report_told asked arrivals (found origin finding) = is_found_told asked (time
 abbrev pub told_of : AskedAudit → List ArrivalValue → List Report → List Report
 told_of asked arrivals reports = filter (is_report_told asked arrivals) reports
 
--- the line of a report
-abbrev pub line_of_report : AskedAudit → List ArrivalValue → Report → List ℕ
-line_of_report asked arrivals (fell told) = due_line asked.form asked.frames told
-line_of_report asked arrivals (found origin finding) = finding_line asked.form asked.frames (time_of arrivals origin.numbers.datagram) origin finding
-
--- ---- groups
-
 -- the group of a report
 abbrev pub group_of : Report → GroupKey
 group_of (fell told) = group_key (said_of_due told).kind (Some (subject_of_due told)) (origin_of_due told)
 group_of (found origin finding) = group_key (said finding).kind (subject finding) origin
 
--- what came of each group once these did
-abbrev pub grouped_all : Option Groups → List Report → Option Groups
-grouped_all groups [] = groups
-grouped_all groups (report ∷ reports) = grouped_all (grouped (group_of report) groups) reports
+-- it is allowed by the rules of a bench
+abbrev pub is_report_allowed : AskedAudit → Report → Bool
+is_report_allowed asked report = is_allowed asked.bench (group_of report)
+
+-- the line of a report
+abbrev pub line_of_report : AskedAudit → List ArrivalValue → Report → List ℕ
+line_of_report asked arrivals (fell told) = due_line asked.form asked.frames (is_report_allowed asked (fell told)) told
+line_of_report asked arrivals (found origin finding) = finding_line asked.form asked.frames (is_report_allowed asked (found origin finding)) (time_of arrivals origin.numbers.datagram) origin finding
+
+-- ---- groups
+
+-- what is noted once these came
+abbrev pub noted_all : Noted → List Report → Noted
+noted_all noted [] = noted
+noted_all noted (report ∷ reports) = noted_all (note (group_of report) noted) reports
 
 -- the lines of reports that are told: of those of a group the first three, where that is asked for
-abbrev pub shown_lines : (Report → List ℕ) → Option Groups → List Report → List ℕ
-shown_lines line groups [] = []
-shown_lines line groups (report ∷ reports) = line_if (is_shown groups (group_of report)) (line report) ++ shown_lines line (grouped (group_of report) groups) reports
+abbrev pub shown_lines : (Report → List ℕ) → Noted → List Report → List ℕ
+shown_lines line noted [] = []
+shown_lines line noted (report ∷ reports) = line_if (is_shown noted (group_of report)) (line report) ++ shown_lines line (note (group_of report) noted) reports
 
 abbrev pub report_lines : AskedAudit → List ArrivalValue → List Report → List ℕ
-report_lines asked arrivals reports = shown_lines (line_of_report asked arrivals) (groups_begun asked.group) (told_of asked arrivals reports)
+report_lines asked arrivals reports = shown_lines (line_of_report asked arrivals) (noted_begun asked.group asked.bench) (told_of asked arrivals reports)
+
+-- what is noted of these reports of these datagrams, where they are told
+abbrev pub noted_in : AskedAudit → List ArrivalValue → List Report → Noted
+noted_in asked arrivals reports = noted_all (noted_begun asked.group asked.bench) (told_of asked arrivals reports)
 
 -- ---- the summary
 
@@ -164,17 +179,18 @@ kind_line form kind n = if n == 0 then [] else counted_line form kind n
 abbrev pub summary_text : Form → Looked → List Report → List ℕ
 summary_text form looked reports = audited_line form looked (length reports) ++ flat_map (λ kind. kind_line form kind (count_of kind reports)) all_kinds
 
--- the summary, how many more of each group there were than are shown, and what could not be judged
-abbrev pub closing_text : Form → Looked → Option Groups → List Report → List ℕ
-closing_text form looked groups reports = summary_text form looked reports ++ (groups_text form groups ++ unjudged_text form looked.passed looked.ended)
+-- the summary, how many more of each group there were than are shown, what is allowed or more than may come, and what could not
+-- be judged
+abbrev pub closing_text : Form → LeftOut → Looked → Noted → List Report → List ℕ
+closing_text form left_out looked noted reports = summary_text form looked reports ++ (noted_text form noted ++ unjudged_text form left_out looked.passed looked.ended)
 
 -- ---- the whole
 
 -- the text of these reports of these datagrams: the lines of those that are told, their summary, and what could not be judged
-abbrev pub audit_text : AskedAudit → List ArrivalValue → List Report → Looked → List ℕ
-audit_text asked arrivals reports looked =
+abbrev pub audit_text : AskedAudit → LeftOut → List ArrivalValue → List Report → Looked → List ℕ
+audit_text asked left_out arrivals reports looked =
     report_lines asked arrivals reports
-    ++ closing_text asked.form looked (grouped_all (groups_begun asked.group) (told_of asked arrivals reports)) (told_of asked arrivals reports)
+    ++ closing_text asked.form left_out looked (noted_in asked arrivals reports) (told_of asked arrivals reports)
 
 -- ---- what becomes of a line
 

@@ -11,9 +11,9 @@ use Rattle.someipctl_io.specs.declared.form.Form.{Form}
 use Rattle.someipctl_io.specs.declared.form.Form.TheVariants.{Plain, Json}
 use Rattle.someipctl_io.specs.ToldLines.{Content, ToldField, endpoint, field, id, line_text, mark, nothing, number, text}
 use Rattle.someipctl_show.specs.VerdictForms.{head_of, no_head, wordless}
-use Rattle.someipctl_recordings.specs.declared.audit.kind.Kind.{Kind}
+use Rattle.audit_rules.specs.declared.kind.Kind.{Kind}
 use Rattle.someipctl_recordings.specs.declared.audit.subject.Subject.{Subject}
-use Rattle.someipctl_recordings.specs.audit.Kinds.{all_kinds, kind_name, kind_number, kind_words}
+use Rattle.audit_rules.specs.Kinds.{all_kinds, kind_name, kind_number, kind_words}
 
 -- ---- what those of a group have in common
 
@@ -35,9 +35,9 @@ groups_begun false = None
 groups_begun true = Some (record { limit = 65536; numbers = finite.empty })
 
 -- one more of a group is shown: without a book each is
-abbrev pub is_shown : Option Groups → GroupKey → Bool
-is_shown None key = true
-is_shown (Some book) key = is_one_told key book
+abbrev pub is_one_shown : Option Groups → GroupKey → Bool
+is_one_shown None key = true
+is_one_shown (Some book) key = is_one_told key book
 
 -- one more of a group came
 abbrev pub grouped : GroupKey → Option Groups → Option Groups

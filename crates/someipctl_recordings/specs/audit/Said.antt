@@ -28,9 +28,9 @@ use Rattle.someip_audit.specs.declared.FellDue.{FellDue}
 use Rattle.someip_audit.specs.declared.FellDue.TheVariants as due
 use Rattle.someip_texts.specs.Words.{hex2, hex4, ids_text}
 use Rattle.someipctl_io.specs.Words.{ended}
-use Rattle.someipctl_recordings.specs.declared.audit.kind.Kind.{Kind}
-use Rattle.someipctl_recordings.specs.declared.audit.kind.Kind.TheVariants as kinds
-use Rattle.someipctl_recordings.specs.audit.Kinds.{kind_words}
+use Rattle.audit_rules.specs.declared.kind.Kind.{Kind}
+use Rattle.audit_rules.specs.declared.kind.Kind.TheVariants as kinds
+use Rattle.audit_rules.specs.Kinds.{kind_words}
 
 -- what is said of a finding: its kind, and the words after those of the kind
 pub record Said : Type 0 where

@@ -42,7 +42,7 @@ seen_in arrivals = seen_from 0 0 arrivals
 
 -- the audit at a datagram: it begins with the first
 abbrev pub audit_at : AskedAudit → Option AuditState → Seen → AuditState
-audit_at asked None seen = audit_begun asked.rules (ports_of asked.wanted.ports) (learns asked.wanted) seen.now
+audit_at asked None seen = audit_begun asked.rules asked.bench (ports_of asked.wanted.ports) (learns asked.wanted) seen.now
 audit_at asked (Some state) seen = state
 
 -- what an audit tells of datagrams, and at last of what fell due by the last moment; where there was no datagram it tells nothing

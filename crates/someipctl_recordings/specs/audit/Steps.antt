@@ -2,12 +2,12 @@
 use Rattle.std.specs.Prelude.{◌≡◌, ◌⊎◌, ℕ, Bool, List, ◌++◌, filter, map, Option, None}
 use Rattle.recording.specs.declared.Time.{Time}
 use Rattle.someip_audit.specs.declared.FellDue.{FellDue}
-use Rattle.someip_audit.specs.groups.GroupTables.{Groups}
+use Rattle.someipctl_recordings.specs.declared.audit.noted.Noted.{Noted}
 use Rattle.someip_audit.specs.Audits.{AuditState, Drains, Hears, Report, Seen, fell, found, seen_messages}
 use Rattle.someipctl_io.specs.Sending.{Sends, Stops}
 use Rattle.someipctl_recordings.specs.declared.audit.tally.Tally.{Tally}
 use Rattle.someipctl_recordings.specs.audit.AskedAudits.{AskedAudit}
-use Rattle.someipctl_recordings.specs.audit.AuditText.{Looked, due_line, finding_line, grouped_all, is_due_told, is_found_told, shown_lines}
+use Rattle.someipctl_recordings.specs.audit.AuditText.{Looked, due_line, finding_line, noted_all, is_due_told, is_found_told, is_report_allowed, shown_lines}
 use Rattle.someipctl_recordings.specs.audit.SeenIn.{DrainsSome, StopsAt, looked_more}
 use Rattle.someipctl_recordings.specs.audit.Tallies.{Counts}
 
@@ -20,23 +20,23 @@ is_told_at asked time (found origin finding) = is_found_told asked time origin f
 
 -- its line
 abbrev pub line_at : AskedAudit → Option Time → Report → List ℕ
-line_at asked time (fell told) = due_line asked.form asked.frames told
-line_at asked time (found origin finding) = finding_line asked.form asked.frames time origin finding
+line_at asked time (fell told) = due_line asked.form asked.frames (is_report_allowed asked (fell told)) told
+line_at asked time (found origin finding) = finding_line asked.form asked.frames (is_report_allowed asked (found origin finding)) time origin finding
 
 -- those of such a datagram that are told
 abbrev pub told_at : AskedAudit → Option Time → List Report → List Report
 told_at asked time reports = filter (is_told_at asked time) reports
 
 -- their lines, of those of a group as many as are shown
-abbrev pub lines_at : AskedAudit → Option Time → Option Groups → List Report → List ℕ
-lines_at asked time groups reports = shown_lines (line_at asked time) groups (told_at asked time reports)
+abbrev pub lines_at : AskedAudit → Option Time → Noted → List Report → List ℕ
+lines_at asked time noted reports = shown_lines (line_at asked time) noted (told_at asked time reports)
 
 -- ---- what fell due
 
 -- more reports were counted, and each in its group
 abbrev pub CountsMore : Tally → Tally → List Report → Type 0
 CountsMore before after more =
-    ((reports : List Report) (looked : Looked) → Counts before reports looked → Counts after (reports ++ more) looked) × (after.groups ≡ grouped_all before.groups more)
+    ((reports : List Report) (looked : Looked) → Counts before reports looked → Counts after (reports ++ more) looked) × (after.noted ≡ noted_all before.noted more)
 
 -- what fell due and is told
 abbrev pub fell_told : AskedAudit → List FellDue → List Report
@@ -46,14 +46,14 @@ fell_told asked told = told_at asked None (map fell told)
 pub record PutsDue (asked : AskedAudit) (now : ℕ) (before after : AuditState) (tally counted : Tally) (a : Option (List ℕ)) (held : List ℕ) (b : Option (List ℕ)) (waits : List ℕ) : Type 0 where
   pub told : List FellDue
   pub drains : Drains now before told after
-  pub sends : Sends a held b waits (lines_at asked None tally.groups (map fell told))
+  pub sends : Sends a held b waits (lines_at asked None tally.noted (map fell told))
   pub counts : CountsMore tally counted (fell_told asked told)
 
 -- some of it was printed, of which the last line may be cut
-pub record StopsDue (asked : AskedAudit) (now : ℕ) (before : AuditState) (groups : Option Groups) (a : Option (List ℕ)) (held : List ℕ) (b : Option (List ℕ)) : Type 0 where
+pub record StopsDue (asked : AskedAudit) (now : ℕ) (before : AuditState) (noted : Noted) (a : Option (List ℕ)) (held : List ℕ) (b : Option (List ℕ)) : Type 0 where
   pub told : List FellDue
   pub some : DrainsSome now before told
-  pub stops : Stops a held b (lines_at asked None groups (map fell told))
+  pub stops : Stops a held b (lines_at asked None noted (map fell told))
 
 -- ---- a datagram
 
@@ -61,12 +61,12 @@ pub record StopsDue (asked : AskedAudit) (now : ℕ) (before : AuditState) (grou
 pub record PutsSeen (asked : AskedAudit) (time : Option Time) (seen : Seen) (before after : AuditState) (tally counted : Tally) (a : Option (List ℕ)) (held : List ℕ) (b : Option (List ℕ)) (waits : List ℕ) : Type 0 where
   pub told : List Report
   pub hears : Hears before seen told after
-  pub sends : Sends a held b waits (lines_at asked time tally.groups told)
+  pub sends : Sends a held b waits (lines_at asked time tally.noted told)
   pub counts : (reports : List Report) (looked : Looked) → Counts tally reports looked → Counts counted (reports ++ told_at asked time told) (looked_more (seen_messages seen hears.between) looked)
-  pub groups : counted.groups ≡ grouped_all tally.groups (told_at asked time told)
+  pub noted : counted.noted ≡ noted_all tally.noted (told_at asked time told)
 
 -- some of it was printed, of which the last line may be cut
-pub record StopsSeen (asked : AskedAudit) (time : Option Time) (seen : Seen) (before : AuditState) (groups : Option Groups) (a : Option (List ℕ)) (held : List ℕ) (b : Option (List ℕ)) : Type 0 where
+pub record StopsSeen (asked : AskedAudit) (time : Option Time) (seen : Seen) (before : AuditState) (noted : Noted) (a : Option (List ℕ)) (held : List ℕ) (b : Option (List ℕ)) : Type 0 where
   pub told : List Report
   pub some : StopsAt seen.now before told ⊎ ((after : AuditState) × Hears before seen told after)
-  pub stops : Stops a held b (lines_at asked time groups told)
+  pub stops : Stops a held b (lines_at asked time noted told)

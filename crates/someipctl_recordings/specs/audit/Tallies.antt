@@ -3,9 +3,9 @@ use Rattle.std.specs.Prelude.{◌≡◌, ℕ, ◌+◌, max, List, length, slice_
 use Rattle.std.specs.List.{flat_map}
 use Rattle.someip_audit.specs.Audits.{Report}
 use Rattle.someipctl_io.specs.declared.form.Form.{Form}
-use Rattle.someipctl_recordings.specs.declared.audit.kind.Kind.{Kind}
+use Rattle.audit_rules.specs.declared.kind.Kind.{Kind}
 use Rattle.someipctl_recordings.specs.declared.audit.tally.Tally.{Tally}
-use Rattle.someipctl_recordings.specs.audit.Kinds.{kind_number}
+use Rattle.audit_rules.specs.Kinds.{kind_number}
 use Rattle.someipctl_recordings.specs.audit.AuditText.{Looked, audited_line, count_of, kind_line}
 
 -- one more finding of a kind

@@ -1,4 +1,6 @@
 -- What the laws of texts speak of as examples.
+use Rattle.audit_rules.specs.declared.weights.Exceeded.{Exceeded}
+use Rattle.recording_packets.specs.declared.LeftOut.{LeftOut}
 use Rattle.std.specs.Prelude.{ℕ, [], ◌∷◌, None, Some, false}
 use Rattle.recording.specs.declared.Time.{Time}
 use Rattle.std.specs.declared.net.socket_addr.SocketAddrV4.{SocketAddrV4}
@@ -22,7 +24,7 @@ use Rattle.someipctl_show.specs.declared.services.AskedService.{AskedService}
 use Rattle.someipctl_recordings.specs.Wanted.{WantedValue, all_wanted}
 use Rattle.someipctl_recordings.specs.audit.AskedAudits.{AskedAudit}
 use Rattle.someip_audit.specs.declared.groups.GroupKey.{GroupKey}
-use Rattle.someipctl_recordings.specs.declared.audit.kind.Kind.TheVariants.{Late, OfferMoved, Reboot}
+use Rattle.audit_rules.specs.declared.kind.Kind.TheVariants.{Late, OfferMoved, Reboot}
 use Rattle.someipctl_recordings.specs.audit.AuditText.{Looked}
 use Rattle.someipctl_recordings.specs.audit.Groupings.{group_key}
 use Rattle.someipctl_recordings.specs.audit.Subjects.{about_call, about_nothing, about_service}
@@ -124,6 +126,7 @@ method_of service method = record { service = service; method = Some method }
 abbrev asks : WantedValue → AskedAudit
 asks wanted = record {
   rules = record { limit = 65536; answer_ms = 2000; overtake_ms = 100; counting = ByEvent; settle_ms = 10000; segments = record { slots = 16; limit = 1048576; timeout_ms = 5000 } };
+  bench = [];
   wanted = wanted;
   form = Plain;
   frames = false;
@@ -155,3 +158,30 @@ reboot_group = group_key Reboot (Some about_nothing) origin_1
 
 abbrev pub moved_group : GroupKey
 moved_group = group_key OfferMoved (Some (about_service 0x1234)) origin_1
+
+-- ---- in the summary
+
+-- five late answers to a method, of which a rule lets two come
+abbrev pub five_late : Exceeded
+five_late = record { kind = 16; service = Some 4660; method = Some 1057; most = 2; came = 5 }
+
+-- the same of a rule of the whole service
+abbrev pub five_late_of_any_method : Exceeded
+five_late_of_any_method = record five_late { method = None }
+
+-- no packet was left out
+abbrev pub none_left_out : LeftOut
+none_left_out = record {
+  link_type = 0;
+  not_ipv4 = 0;
+  not_udp = 0;
+  cut = 0;
+  bad_udp_length = 0;
+  copies = 0;
+  fragments_without_rest = 0;
+  fragments_that_differ = 0;
+}
+
+-- three packets were not UDP, and two were cut short
+abbrev pub five_left_out : LeftOut
+five_left_out = record none_left_out { not_udp = 3; cut = 2 }

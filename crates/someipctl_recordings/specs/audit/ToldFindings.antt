@@ -28,11 +28,11 @@ use Rattle.someip_audit.specs.declared.Finding.TheVariants as findings
 use Rattle.someip_audit.specs.declared.ServiceInstance.{ServiceInstance}
 use Rattle.someip_audit.specs.declared.FellDue.{FellDue}
 use Rattle.someip_audit.specs.declared.FellDue.TheVariants as due
-use Rattle.someipctl_io.specs.ToldLines.{text, number, id, byte, endpoint, ToldField, ToldHead, ToldLine, field}
+use Rattle.someipctl_io.specs.ToldLines.{text, number, id, byte, endpoint, mark, ToldField, ToldHead, ToldLine, field}
 use Rattle.someipctl_io.specs.ToldItems.{datagram_field}
 use Rattle.someipctl_recordings.specs.Origins.{frame_field, said_of_time}
-use Rattle.someipctl_recordings.specs.declared.audit.kind.Kind.{Kind}
-use Rattle.someipctl_recordings.specs.audit.Kinds.{kind_name, kind_words}
+use Rattle.audit_rules.specs.declared.kind.Kind.{Kind}
+use Rattle.audit_rules.specs.Kinds.{kind_name, kind_words}
 use Rattle.someipctl_recordings.specs.audit.Said.{said, said_of_due}
 
 -- ---- the head
@@ -50,12 +50,17 @@ abbrev pub origin_fields : Bool → Option Time → Origin → List ToldField
 origin_fields true time origin = frame_field origin.numbers.frame ∷ time_field time ∷ []
 origin_fields false time origin = time_field time ∷ []
 
+-- that it is allowed, where it is
+abbrev pub allowed_field : Bool → List ToldField
+allowed_field true = field (codes " allowed") (codes "allowed") mark ∷ []
+allowed_field false = []
+
 -- what stands before what is said
-abbrev pub audit_head : Bool → Option Time → Origin → ToldHead
-audit_head frames time origin = record {
+abbrev pub audit_head : Bool → Bool → Option Time → Origin → ToldHead
+audit_head frames allowed time origin = record {
   number = datagram_field origin.numbers.datagram ∷ [];
   origin = origin_fields frames time origin;
-  place = endpoint_fields origin;
+  place = endpoint_fields origin ++ allowed_field allowed;
 }
 
 -- ---- fields of findings

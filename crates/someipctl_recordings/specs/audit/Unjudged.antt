@@ -1,6 +1,9 @@
 -- What of a recording could not be judged, as the summary of its audit tells it.
-use Rattle.std.specs.Prelude.{ℕ, ◌==◌, Bool, true, false, if◌then◌else◌, List, [], ◌∷◌, ◌++◌, codes, decimal, Option, None, Some}
+use Rattle.std.specs.Prelude.{ℕ, ◌==◌, Bool, true, false, if◌then◌else◌, List, [], ◌∷◌, ◌++◌, codes, decimal, map, ◌&&◌, Option, None, Some}
+use Rattle.std.specs.Borrow.{Bor}
 use Rattle.std.specs.List.{flat_map}
+use Rattle.recording_packets.specs.LeftOut.{total}
+use Rattle.recording_packets.specs.declared.LeftOut.{LeftOut}
 use Rattle.audit_traffic.specs.declared.ways.OneWay.{OneWay}
 use Rattle.audit_traffic.specs.ways.WayTables.{one_ways}
 use Rattle.someip_audit.specs.Audits.{AuditState}
@@ -8,6 +11,48 @@ use Rattle.someipctl_io.specs.declared.form.Form.{Form}
 use Rattle.someipctl_io.specs.declared.form.Form.TheVariants.{Plain, Json}
 use Rattle.someipctl_io.specs.ToldLines.{ToldLine, endpoint, field, line_text, number}
 use Rattle.someipctl_show.specs.VerdictForms.{no_head, wordless}
+
+-- ---- packets that gave no datagram
+
+-- the kinds of them, in words, and how many of each there were
+abbrev pub left_kinds : LeftOut → List (List ℕ × ℕ)
+left_kinds l =
+    (codes "of another link type", l.link_type) ∷ ((codes "not IPv4", l.not_ipv4) ∷ ((codes "not UDP", l.not_udp) ∷ ((codes "cut short", l.cut) ∷ (
+    (codes "with a bad UDP length", l.bad_udp_length) ∷ ((codes "copies", l.copies) ∷ ((codes "fragments without the rest", l.fragments_without_rest) ∷ (
+    (codes "fragments that differ", l.fragments_that_differ) ∷ [])))))))
+
+-- by the program's values
+abbrev pub kinds_told : List (Bor (List ℕ) × ℕ) → List (List ℕ × ℕ)
+kinds_told kinds = map (λ k. (k.0.now, k.1)) kinds
+
+-- how many there were of a kind, if there were any: the first behind a space, and others behind a comma
+abbrev pub kind_text : Bool → (List ℕ × ℕ) → List ℕ
+kind_text first kind = if kind.1 == 0 then [] else (if first then codes " " else codes ", ") ++ (decimal kind.1 ++ (codes " " ++ kind.0))
+
+-- the next one is the first still, where there were none
+abbrev pub is_still_first : Bool → (List ℕ × ℕ) → Bool
+is_still_first first kind = first && (kind.1 == 0)
+
+-- those that there were, and the end of the line
+abbrev pub left_words : Bool → List (List ℕ × ℕ) → List ℕ
+left_words first [] = codes "\n"
+left_words first (kind ∷ kinds) = kind_text first kind ++ left_words (is_still_first first kind) kinds
+
+abbrev pub left_out_told : LeftOut → ToldLine
+left_out_told l =
+    wordless (codes "left-out")
+    (field [] (codes "linktype") (number l.link_type) ∷ field [] (codes "notipv4") (number l.not_ipv4) ∷ field [] (codes "notudp") (number l.not_udp)
+    ∷ field [] (codes "cut") (number l.cut) ∷ field [] (codes "badlength") (number l.bad_udp_length) ∷ field [] (codes "copies") (number l.copies)
+    ∷ field [] (codes "incomplete") (number l.fragments_without_rest) ∷ field [] (codes "differing") (number l.fragments_that_differ) ∷ [])
+
+-- plain `left out 3 not UDP, 2 cut short`
+abbrev pub left_out_line : Form → LeftOut → List ℕ
+left_out_line Plain l = codes "left out" ++ left_words true (left_kinds l)
+left_out_line Json l = line_text Json no_head (left_out_told l)
+
+-- that line, if there were any
+abbrev pub left_out_text : Form → LeftOut → List ℕ
+left_out_text form l = if total l == 0 then [] else left_out_line form l
 
 -- ---- datagrams that were not looked at
 
@@ -64,6 +109,6 @@ ways_alone (Some state) = one_ways state.ways
 
 -- ---- all of it
 
--- where so many datagrams were not looked at, and the audit is this one at its end
-abbrev pub unjudged_text : Form → ℕ → Option AuditState → List ℕ
-unjudged_text form passed ended = scope_text form passed (was_offered ended) ++ one_ways_text form (ways_alone ended)
+-- where these packets gave no datagram, so many datagrams were not looked at, and the audit is this one at its end
+abbrev pub unjudged_text : Form → LeftOut → ℕ → Option AuditState → List ℕ
+unjudged_text form left_out passed ended = left_out_text form left_out ++ (scope_text form passed (was_offered ended) ++ one_ways_text form (ways_alone ended))

@@ -1,5 +1,6 @@
 //! What an audit goes by.
 use crate::wanted::Wanted;
+use audit_rules::Rules;
 use someip_audit::AuditRules;
 use someipctl_io::Form;
 
@@ -8,6 +9,8 @@ use someipctl_io::Form;
 pub struct AuditAsked<'a> {
     /// Its settings.
     pub rules: AuditRules,
+    /// The rules of the bench, by which findings weigh.
+    pub bench: &'a Rules,
     /// Which packets are looked at, and the ports that are beside that of Service Discovery: where none are
     /// named, or where that is asked for, also the endpoints that Offers and Subscribes named so far. The rest
     /// chooses the findings that are told, and not what is looked at: those of the services, the client, the

@@ -4,7 +4,7 @@ ghost use Rattle.someipctl_io.specs.declared.Fault.TheVariants.{CannotRead};
 ghost use Rattle.someip_audit.specs.Audits.{fell, found};
 ghost use Rattle.someipctl_io.specs.Sending.{Sends, Stops};
 ghost use Rattle.someipctl_recordings.specs.audit.AskedAudits.{view_asked};
-ghost use Rattle.someipctl_recordings.specs.audit.AuditText.{due_line, finding_line, line_if};
+ghost use Rattle.someipctl_recordings.specs.audit.AuditText.{due_line, finding_line, is_report_allowed, line_if};
 ghost use Rattle.someipctl_recordings.specs.audit.Scenes.{view_seen};
 ghost use Rattle.someipctl_recordings.specs.audit.Steps.{CountsMore, PutsDue, PutsSeen, StopsDue, StopsSeen};
 ghost use Rattle.someipctl_recordings.specs.audit.Steps.{fell_told, lines_at, told_at};
@@ -51,7 +51,7 @@ pub(crate) fn put_seen<S: Reassembly + Drop, W: Write>(
     ensures puts { OnOk result (PutsSeen (view_asked asked.now) seen.entry.now.time (view_seen seen.entry.now)
         audit.old audit.new tally.old tally.new (W.contents writer.old) buffer.old (W.contents writer.new) buffer.new) }
     ensures stops { OnErr result (StopsSeen (view_asked asked.now) seen.entry.now.time (view_seen seen.entry.now) audit.old
-        tally.old.groups (W.contents writer.old) buffer.old (W.contents writer.new)) }
+        tally.old.noted (W.contents writer.old) buffer.old (W.contents writer.new)) }
 {
     put_due(buffer, writer, asked, audit, seen.now, tally)?;
     findings.clear();
@@ -79,7 +79,7 @@ pub(crate) fn put_due<S: Reassembly + Drop, W: Write>(
 ) -> Result<(), Fault<Infallible>>
     ensures puts { OnOk result (PutsDue (view_asked asked.now) now audit.old audit.new tally.old tally.new
         (W.contents writer.old) buffer.old (W.contents writer.new) buffer.new) }
-    ensures stops { OnErr result (StopsDue (view_asked asked.now) now audit.old tally.old.groups
+    ensures stops { OnErr result (StopsDue (view_asked asked.now) now audit.old tally.old.noted
         (W.contents writer.old) buffer.old (W.contents writer.new)) }
     ensures read { IfErr result (λ fault. fault ≡ CannotRead → ⊥) }
 {
@@ -100,12 +100,12 @@ fn tell_due<W: Write>(
     tally: &mut Tally,
 ) -> Result<(), Fault<Infallible>>
     ensures ok { OnOk result (Sends (W.contents writer.old) buffer.old (W.contents writer.new) buffer.new
-        (lines_at (view_asked asked.now) None tally.old.groups (fell told.now ∷ []))) }
+        (lines_at (view_asked asked.now) None tally.old.noted (fell told.now ∷ []))) }
     ensures counts { OnOk result (CountsMore tally.old tally.new (fell_told (view_asked asked.now) (told.now ∷ []))) }
     ensures more { OnOk result (tally.new.reports ≡ tally.old.reports + 1) }
     ensures few { OnOk result (tally.new.reports < 2 ^ 64) }
     ensures err { OnErr result (Stops (W.contents writer.old) buffer.old (W.contents writer.new)
-        (lines_at (view_asked asked.now) None tally.old.groups (fell told.now ∷ []))) }
+        (lines_at (view_asked asked.now) None tally.old.noted (fell told.now ∷ []))) }
     ensures read { IfErr result (λ fault. fault ≡ CannotRead → ⊥) }
 {
     if !is_due_told(asked, told) {
@@ -127,9 +127,11 @@ fn show_due<W: Write>(
     is_shown: bool,
 ) -> Result<(), CannotWrite>
     ensures ok { OnOk result (Sends (W.contents writer.old) buffer.old (W.contents writer.new) buffer.new
-        (line_if is_shown (due_line asked.now.form asked.now.frames told.now))) }
+        (line_if is_shown (due_line asked.now.form asked.now.frames
+        (is_report_allowed (view_asked asked.now) (fell told.now)) told.now))) }
     ensures err { OnErr result (Stops (W.contents writer.old) buffer.old (W.contents writer.new)
-        (line_if is_shown (due_line asked.now.form asked.now.frames told.now))) }
+        (line_if is_shown (due_line asked.now.form asked.now.frames
+        (is_report_allowed (view_asked asked.now) (fell told.now)) told.now))) }
 {
     if !is_shown {
         return Ok(());
@@ -149,11 +151,11 @@ fn put_all_found<W: Write>(
     tally: &mut Tally,
 ) -> Result<(), Fault<Infallible>>
     ensures ok { OnOk result (Sends (W.contents writer.old) buffer.old (W.contents writer.new) buffer.new
-        (lines_at (view_asked asked.now) time tally.old.groups (map (found origin.now) findings.now))) }
+        (lines_at (view_asked asked.now) time tally.old.noted (map (found origin.now) findings.now))) }
     ensures counts { OnOk result (CountsMore tally.old tally.new
         (told_at (view_asked asked.now) time (map (found origin.now) findings.now))) }
     ensures err { OnErr result (Stops (W.contents writer.old) buffer.old (W.contents writer.new)
-        (lines_at (view_asked asked.now) time tally.old.groups (map (found origin.now) findings.now))) }
+        (lines_at (view_asked asked.now) time tally.old.noted (map (found origin.now) findings.now))) }
 {
     for finding in findings {
         tell_found(buffer, writer, asked, time, origin, finding, tally)?;
@@ -172,11 +174,11 @@ fn tell_found<W: Write>(
     tally: &mut Tally,
 ) -> Result<(), Fault<Infallible>>
     ensures ok { OnOk result (Sends (W.contents writer.old) buffer.old (W.contents writer.new) buffer.new
-        (lines_at (view_asked asked.now) time tally.old.groups (found origin.now finding.now ∷ []))) }
+        (lines_at (view_asked asked.now) time tally.old.noted (found origin.now finding.now ∷ []))) }
     ensures counts { OnOk result (CountsMore tally.old tally.new
         (told_at (view_asked asked.now) time (found origin.now finding.now ∷ []))) }
     ensures err { OnErr result (Stops (W.contents writer.old) buffer.old (W.contents writer.new)
-        (lines_at (view_asked asked.now) time tally.old.groups (found origin.now finding.now ∷ []))) }
+        (lines_at (view_asked asked.now) time tally.old.noted (found origin.now finding.now ∷ []))) }
 {
     if !is_found_told(asked, time, origin, finding) {
         tally.pass()?;
@@ -199,9 +201,11 @@ fn show_found<W: Write>(
     is_shown: bool,
 ) -> Result<(), CannotWrite>
     ensures ok { OnOk result (Sends (W.contents writer.old) buffer.old (W.contents writer.new) buffer.new
-        (line_if is_shown (finding_line asked.now.form asked.now.frames time origin.now finding.now))) }
+        (line_if is_shown (finding_line asked.now.form asked.now.frames
+        (is_report_allowed (view_asked asked.now) (found origin.now finding.now)) time origin.now finding.now))) }
     ensures err { OnErr result (Stops (W.contents writer.old) buffer.old (W.contents writer.new)
-        (line_if is_shown (finding_line asked.now.form asked.now.frames time origin.now finding.now))) }
+        (line_if is_shown (finding_line asked.now.form asked.now.frames
+        (is_report_allowed (view_asked asked.now) (found origin.now finding.now)) time origin.now finding.now))) }
 {
     if !is_shown {
         return Ok(());

@@ -18,21 +18,24 @@ ghost use Rattle.someipctl_recordings.specs.audit.Runs.{IsNothing, PutsAudit, Pu
 ghost use Rattle.someipctl_recordings.specs.audit.Runs.{StopsDatagram, StopsEnd, StopsLast, StopsNext, StopsRecord};
 ghost use Rattle.someipctl_recordings.specs.audit.Scenes.{view_seen};
 ghost use Rattle.someipctl_recordings.specs.audit.SeenIn.{audit_at, ended_with, seen_next};
-ghost use Rattle.someipctl_recordings.specs.audit.Groupings.{groups_text};
+ghost use Rattle.someipctl_recordings.specs.audit.Notes.{noted_text};
 ghost use Rattle.someipctl_recordings.specs.audit.Tallies.{Counts};
 ghost use Rattle.someipctl_recordings.specs.audit.Unjudged.{unjudged_text};
 
 use crate::audit::asked::AuditAsked;
 use crate::audit::auditing::{SeenDatagram, put_due, put_seen};
 use crate::audit::groups::put_groups;
+use crate::audit::noted::Noted;
 use crate::audit::summary::put_summary;
 use crate::audit::tally::Tally;
 use crate::audit::unjudged::put_unjudged;
+use crate::audit::weights::put_weights;
 use crate::moments::moment_of;
 use crate::read_loop::{Coming, next_coming};
 use crate::reassembly::socket_of;
 use crate::wanted::Wanted;
 use crate::{FileFault, ShownRecording, StoppedAt};
+use audit_rules::Rules;
 use recording::{Record, RecordingReader, Time};
 use recording_packets::{Arrival, Intake, LeftOut};
 use someip_audit::{Audit, Finding, WatchRules};
@@ -131,7 +134,7 @@ fn put_files<S: Reassembly + Drop, R: Read, W: Write>(
         (W.contents writer.old) (W.contents writer.new)) }
     ensures unread { IfErr result (λ fault. fault ≡ CannotRead → file.new < length sources.old) }
 {
-    let mut gone = Gone::nothing(alloc, asked.group);
+    let mut gone = Gone::nothing(alloc, asked.group, asked.bench)?;
     let mut auditing = Auditing::<S> {
         alloc,
         audit: None,
@@ -161,7 +164,7 @@ fn put_audit<S: Reassembly + Drop, R: Read, W: Write>(
     requires first { file.old ≡ 0 }
     requires empty { buffer.old ≡ [] }
     requires begun { auditing.old.audit ≡ None }
-    requires nothing { IsNothing asked.now.group gone.old }
+    requires nothing { IsNothing asked.now.group asked.now.bench.now gone.old }
     ensures puts { IfOk result (λ shown. PutsAudit (map R.remaining sources.old) (view_asked asked.now)
         shown (W.contents writer.old) (W.contents writer.new) buffer.new) }
     ensures begun { OnErr result (BeginsAudit (map R.remaining sources.old) (view_asked asked.now)
@@ -303,7 +306,7 @@ fn put_next<S: Reassembly + Drop, W: Write>(
 ) -> Result<(), Fault<Infallible>>
     ensures puts { OnOk result (PutsNext (view_asked asked.now) seen.entry.now auditing.old.audit auditing.new.audit
         tally.old tally.new (W.contents writer.old) buffer.old (W.contents writer.new) buffer.new) }
-    ensures stops { OnErr result (StopsNext (view_asked asked.now) seen.entry.now auditing.old.audit tally.old.groups
+    ensures stops { OnErr result (StopsNext (view_asked asked.now) seen.entry.now auditing.old.audit tally.old.noted
         (W.contents writer.old) buffer.old (W.contents writer.new)) }
 {
     let alloc = auditing.alloc;
@@ -331,7 +334,7 @@ fn begin_with<S: Reassembly + Drop>(
     ensures same { OnErr result (audit.new ≡ audit.old) }
 {
     let watch = watch_of(&asked.wanted);
-    *audit = Some(Audit::begin(alloc, &asked.rules, &watch, seen.now)?);
+    *audit = Some(Audit::begin(alloc, &asked.rules, asked.bench, &watch, seen.now)?);
     Ok(())
 }
 
@@ -363,10 +366,10 @@ fn put_end<S: Reassembly + Drop, W: Write>(
     fault: Option<FileFault>,
 ) -> Result<ShownRecording, Fault<Infallible>>
     ensures puts { (reports : List Report) (looked : Looked) → Counts gone.old.tally reports looked
-        → IfOk result (PutsEnd (view_asked asked.now) gone.old auditing.old.audit reports looked
+        → IfOk result (PutsEnd (view_asked asked.now) left_out gone.old auditing.old.audit reports looked
         (W.contents writer.old) buffer.old (W.contents writer.new) buffer.new) }
     ensures stops { (reports : List Report) (looked : Looked) → Counts gone.old.tally reports looked
-        → OnErr result (StopsEnd (view_asked asked.now) gone.old auditing.old.audit reports looked
+        → OnErr result (StopsEnd (view_asked asked.now) left_out gone.old auditing.old.audit reports looked
         (W.contents writer.old) buffer.old (W.contents writer.new)) }
     ensures fault { IfOk result (λ shown. shown.fault ≡ fault) }
     ensures left_out { IfOk result (λ shown. shown.left_out ≡ left_out) }
@@ -380,16 +383,18 @@ fn put_end<S: Reassembly + Drop, W: Write>(
         gone.now,
         &mut gone.tally,
     )?;
+    let fails = gone.tally.noted.weights.fails(auditing.alloc)?;
     put_closing(
         buffer,
         writer,
         asked.form,
         auditing.alloc,
         &gone.tally,
+        &left_out,
         &auditing.audit,
     )?;
     Ok(ShownRecording {
-        outcome: Outcome::of(gone.tally.findings > 0),
+        outcome: Outcome::of(fails),
         left_out,
         is_full: false,
         fault,
@@ -404,18 +409,19 @@ fn put_closing<S: Reassembly + Drop, W: Write>(
     form: Form,
     alloc: Global,
     tally: &Tally,
+    left_out: &LeftOut,
     audit: &Option<Audit<S>>,
 ) -> Result<(), Fault<Infallible>>
     ensures puts { (reports : List Report) (looked : Looked) → Counts tally.now reports looked
         → OnOk result (Sends (W.contents writer.old) buffer.old (W.contents writer.new)
-        buffer.new (closing_text form (ended_with audit.now looked) tally.now.groups reports)) }
+        buffer.new (closing_text form left_out.now (ended_with audit.now looked) tally.now.noted reports)) }
     ensures stops { (reports : List Report) (looked : Looked) → Counts tally.now reports looked
         → OnErr result (Stops (W.contents writer.old) buffer.old (W.contents writer.new)
-        (closing_text form (ended_with audit.now looked) tally.now.groups reports)) }
+        (closing_text form left_out.now (ended_with audit.now looked) tally.now.noted reports)) }
     ensures read { IfErr result (λ fault. fault ≡ CannotRead → ⊥) }
 {
     put_summary(buffer, writer, form, tally)?;
-    put_rest(buffer, writer, form, alloc, tally, audit)
+    put_rest(buffer, writer, form, alloc, tally, left_out, audit)
 }
 
 /// Prints how many more of each group there were than are shown, and what an audit could not judge, if it began.
@@ -425,16 +431,36 @@ fn put_rest<S: Reassembly + Drop, W: Write>(
     form: Form,
     alloc: Global,
     tally: &Tally,
+    left_out: &LeftOut,
     audit: &Option<Audit<S>>,
 ) -> Result<(), Fault<Infallible>>
     ensures ok { OnOk result (Sends (W.contents writer.old) buffer.old (W.contents writer.new)
-        buffer.new (groups_text form tally.now.groups ++ unjudged_text form tally.now.passed audit.now)) }
+        buffer.new (noted_text form tally.now.noted ++ unjudged_text form left_out.now tally.now.passed audit.now)) }
     ensures err { OnErr result (Stops (W.contents writer.old) buffer.old (W.contents writer.new)
-        (groups_text form tally.now.groups ++ unjudged_text form tally.now.passed audit.now)) }
+        (noted_text form tally.now.noted ++ unjudged_text form left_out.now tally.now.passed audit.now)) }
     ensures read { IfErr result (λ fault. fault ≡ CannotRead → ⊥) }
 {
-    put_groups(buffer, writer, form, &tally.groups)?;
-    put_unjudged(buffer, writer, form, alloc, tally.passed, audit)
+    put_noted(buffer, writer, form, alloc, &tally.noted)?;
+    put_unjudged(buffer, writer, form, alloc, left_out, tally.passed, audit)
+}
+
+/// Prints how many more of each group there were than are shown, how many findings are allowed, and of which kinds
+/// more came than may.
+fn put_noted<W: Write>(
+    buffer: &mut Buffer,
+    writer: &mut W,
+    form: Form,
+    alloc: Global,
+    noted: &Noted,
+) -> Result<(), Fault<Infallible>>
+    ensures ok { OnOk result (Sends (W.contents writer.old) buffer.old (W.contents writer.new)
+        buffer.new (noted_text form noted.now)) }
+    ensures err { OnErr result (Stops (W.contents writer.old) buffer.old (W.contents writer.new)
+        (noted_text form noted.now)) }
+    ensures read { IfErr result (λ fault. fault ≡ CannotRead → ⊥) }
+{
+    put_groups(buffer, writer, form, &noted.groups)?;
+    put_weights(buffer, writer, form, alloc, &noted.weights)
 }
 
 /// Prints what fell due by the last moment, if an audit began.
@@ -448,7 +474,7 @@ fn put_last<S: Reassembly + Drop, W: Write>(
 ) -> Result<(), Fault<Infallible>>
     ensures puts { OnOk result (PutsLast (view_asked asked.now) now audit.old audit.new tally.old tally.new
         (W.contents writer.old) buffer.old (W.contents writer.new) buffer.new) }
-    ensures stops { OnErr result (StopsLast (view_asked asked.now) now audit.old tally.old.groups
+    ensures stops { OnErr result (StopsLast (view_asked asked.now) now audit.old tally.old.noted
         (W.contents writer.old) buffer.old (W.contents writer.new)) }
     ensures read { IfErr result (λ fault. fault ≡ CannotRead → ⊥) }
 {
@@ -459,14 +485,15 @@ fn put_last<S: Reassembly + Drop, W: Write>(
 }
 
 impl Gone {
-    /// Before the first record. Findings may be grouped.
-    fn nothing(alloc: Global, group: bool) -> Gone
-        ensures { IsNothing group result }
+    /// Before the first record, by the rules of a bench. Findings may be grouped.
+    fn nothing(alloc: Global, group: bool, bench: &Rules) -> Result<Gone, AllocError>
+        ensures { IfOk result (IsNothing group bench.now) }
     {
-        Gone {
+        let tally = Tally::new(alloc, group, bench)?;
+        Ok(Gone {
             datagrams: 0,
             now: Moment::start(),
-            tally: Tally::new(alloc, group),
-        }
+            tally,
+        })
     }
 }

@@ -9,9 +9,9 @@ ghost use Rattle.someipctl_recordings.specs.audit.Said.{said_of_receivers, said_
 ghost use Rattle.someipctl_recordings.specs.audit.Said.{said_of_subscription};
 ghost use Rattle.someipctl_recordings.specs.declared.audit.subject.Subject.{Subject};
 
-use crate::audit::kind::Kind;
 use crate::audit::lines::origin_of_due;
 use crate::audit::subject::{Subject, subject_of, subject_of_due};
+use audit_rules::Kind;
 use audit_sd::offers::OfferKey;
 use audit_sd::subscriptions::SubscriptionKey;
 use audit_sd::{offers, receivers, servers, sessions, subscriptions};

@@ -8,11 +8,11 @@ ghost use Rattle.someipctl_io.specs.ToldViews.{view_field, view_said};
 ghost use Rattle.someipctl_io.specs.declared.form.Form.TheVariants.{Plain};
 ghost use Rattle.someipctl_recordings.specs.audit.Groupings.{group_fields, grouped_line, grouped_lines, groups_text};
 ghost use Rattle.someipctl_recordings.specs.audit.Groupings.{id_or_nothing, line_of_kind, lines_of_kind};
-ghost use Rattle.someipctl_recordings.specs.audit.Kinds.{kind_words};
+ghost use Rattle.audit_rules.specs.Kinds.{kind_words};
 
-use crate::audit::kind::{Kind, kinds};
 use crate::audit::summary::put_object;
 use crate::heads::field_of;
+use audit_rules::{Kind, kinds};
 use someip_audit::groups::{GroupBook, Grouped};
 use someipctl_io::{Buffer, CannotWrite, Fault, Field, Form, Line, LineHead, Said, put_line};
 use std::convert::Infallible;
@@ -137,7 +137,7 @@ fn put_plain_group<W: Write>(
 }
 
 /// Prints a plain line of a kind, which begins with these fields.
-fn put_behind<'l, W: Write>(
+pub(crate) fn put_behind<'l, W: Write>(
     buffer: &mut Buffer,
     writer: &mut W,
     number: &'l [Field<'l>],
@@ -164,7 +164,7 @@ fn put_behind<'l, W: Write>(
 }
 
 /// What a plain line begins with.
-fn kind_fields(kind: Kind) -> [Field<'static>; 1]
+pub(crate) fn kind_fields(kind: Kind) -> [Field<'static>; 1]
     ensures { map view_field result ≡ field [] (codes "kind") (text (kind_words kind)) ∷ [] }
 {
     [field_of("", "kind", Said::Text(kind.words()))]
@@ -200,7 +200,7 @@ fn plain_fields(one: &Grouped) -> [Field<'static>; 6]
 }
 
 /// An ID of 16 bits, if there is one.
-fn id_or_nothing(id: Option<u16>) -> Said<'static>
+pub(crate) fn id_or_nothing(id: Option<u16>) -> Said<'static>
     ensures { view_said result ≡ id_or_nothing id }
 {
     match id {

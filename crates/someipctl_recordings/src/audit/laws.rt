@@ -22,8 +22,10 @@ ghost use Rattle.someip_tables.specs.declared.hashed.Origin.{Origin};
 ghost use Rattle.someipctl_io.specs.declared.form.Form.TheVariants.{Json, Plain};
 ghost use Rattle.recording.specs.declared.Time.{Time};
 ghost use Rattle.recording_packets.specs.Intake.{ArrivalValue};
-ghost use Rattle.someipctl_recordings.specs.declared.audit.kind.Kind.TheVariants as kinds;
+ghost use Rattle.audit_rules.specs.declared.kind.Kind.TheVariants as kinds;
 ghost use Rattle.someipctl_recordings.specs.audit.Groupings.{grouped_line, line_of_kind};
+ghost use Rattle.someipctl_recordings.specs.audit.Notes.{allowed_text, exceeded_line};
+ghost use Rattle.someipctl_recordings.specs.audit.Unjudged.{left_out_text};
 ghost use Rattle.someipctl_recordings.specs.audit.TextScenes.{late_group, moved_group, reboot_group};
 ghost use Rattle.someipctl_recordings.specs.audit.AskedAudits.{AskedAudit};
 ghost use Rattle.someipctl_recordings.specs.audit.AuditText.{due_line, finding_line, is_due_told, is_found_told, line_of};
@@ -33,6 +35,7 @@ ghost use Rattle.someipctl_recordings.specs.audit.Said.{said, said_of_due, said_
 ghost use Rattle.someipctl_recordings.specs.audit.SeenIn.{Tells, looked_of};
 ghost use Rattle.someipctl_recordings.specs.audit.Subjects.{ChoosesNone};
 ghost use Rattle.someipctl_recordings.specs.audit.TextScenes.{before, method_of, of_address, of_client, of_services, three_datagrams};
+ghost use Rattle.someipctl_recordings.specs.audit.TextScenes.{five_late, five_late_of_any_method, five_left_out, none_left_out};
 ghost use Rattle.someipctl_recordings.specs.audit.TextScenes.{whole_service};
 ghost use Rattle.someipctl_recordings.specs.audit.TextScenes.{error_1, event_1, flow_1, header_1, instance_1, key_1, offer_1, origin_1};
 ghost use Rattle.someipctl_recordings.specs.audit.TextScenes.{other_1};
@@ -96,71 +99,77 @@ pub fn findings_have_texts()
 /// deadline, with the datagram of the request, the first segment, the newest Offer or the Subscribe. Where it is
 /// asked for, the number of the packet comes first.
 pub fn lines_have_a_time_and_a_datagram()
-    ensures found { finding_line Plain false (Some (record { seconds = 5; nanoseconds = 7 })) origin_1
+    ensures found { finding_line Plain false false (Some (record { seconds = 5; nanoseconds = 7 })) origin_1
         (findings.Session sessions.Reboot) ≡ codes "5.000000007 12 192.168.0.1:40000 192.168.0.2:30490 reboot\n" }
-    ensures without_time { finding_line Plain false None origin_1 (findings.Session sessions.Reboot)
+    ensures without_time { finding_line Plain false false None origin_1 (findings.Session sessions.Reboot)
         ≡ codes "- 12 192.168.0.1:40000 192.168.0.2:30490 reboot\n" }
-    ensures frame { finding_line Plain true None origin_1 (findings.Session sessions.Reboot)
+    ensures frame { finding_line Plain true false None origin_1 (findings.Session sessions.Reboot)
         ≡ codes "#14 - 12 192.168.0.1:40000 192.168.0.2:30490 reboot\n" }
-    ensures unanswered { due_line Plain false (due.Unanswered unanswered_1)
+    ensures unanswered { due_line Plain false false (due.Unanswered unanswered_1)
         ≡ codes "4.500000000 8 192.168.0.2:40001 192.168.0.1:30509 unanswered 1234.0421 client 0101 session 0002\n" }
-    ensures frame_of_call { due_line Plain true (due.Unanswered unanswered_1)
+    ensures frame_of_call { due_line Plain true false (due.Unanswered unanswered_1)
         ≡ codes "#9 4.500000000 8 192.168.0.2:40001 192.168.0.1:30509 unanswered 1234.0421 client 0101 session 0002\n" }
-    ensures missing { due_line Plain false (due.Missing missing_1)
+    ensures missing { due_line Plain false false (due.Missing missing_1)
         ≡ codes "7.000000000 9 192.168.0.1:30509 192.168.0.2:40001 segments missing 1234.0421 client 0101 session 0002\n" }
-    ensures expired { due_line Plain false (due.Expired expired_1)
+    ensures expired { due_line Plain false false (due.Expired expired_1)
         ≡ codes "8.003000000 12 192.168.0.1:40000 192.168.0.2:30490 offer expired 1234.0001 major 02\n" }
-    ensures subscribe { due_line Plain false (due.SubscribeUnanswered subscribe_1)
+    ensures subscribe { due_line Plain false false (due.SubscribeUnanswered subscribe_1)
         ≡ codes "9.000000000 12 192.168.0.1:40000 192.168.0.2:30490 subscribe unanswered 1234.0001 major 02 group 0005 counter 3\n" }
-    ensures lost { due_line Plain false (due.EventLost lost_1)
+    ensures lost { due_line Plain false false (due.EventLost lost_1)
         ≡ codes "9.100000000 8 192.168.0.1:30509 192.168.0.2:40000 event gap 1234.8001 session 0009\n" }
+    ensures allowed { finding_line Plain false true None origin_1 (findings.Session sessions.Reboot)
+        ≡ codes "- 12 192.168.0.1:40000 192.168.0.2:30490 allowed reboot\n" }
+    ensures allowed_frame { due_line Plain true true (due.Unanswered unanswered_1)
+        ≡ codes "#9 4.500000000 8 192.168.0.2:40001 192.168.0.1:30509 allowed unanswered 1234.0421 client 0101 session 0002\n" }
 {}
 
 /// A plain line is the plain form of what is told: for every finding, and for all that fell due, it has the head
 /// and the words that are said.
 pub fn a_plain_line_says_what_is_told()
-    ensures found { (frames : Bool) (time : Option Time) (origin : Origin) (finding : Finding)
-        → finding_line Plain frames time origin finding ≡ line_of frames time origin (said finding) }
-    ensures fell { (frames : Bool) (told : FellDue) → due_line Plain frames told
-        ≡ line_of frames (Some (time_at (deadline told))) (origin_of_due told) (said_of_due told) }
+    ensures found { (frames allowed : Bool) (time : Option Time) (origin : Origin) (finding : Finding)
+        → finding_line Plain frames allowed time origin finding ≡ line_of frames allowed time origin (said finding) }
+    ensures fell { (frames allowed : Bool) (told : FellDue) → due_line Plain frames allowed told
+        ≡ line_of frames allowed (Some (time_at (deadline told))) (origin_of_due told) (said_of_due told) }
 {}
 
 /// Lines as objects, by example: with and without a time and the packet, each shape of a finding, and what fell
 /// due.
 pub fn findings_are_objects()
-    ensures found { finding_line Json false (Some (record { seconds = 5; nanoseconds = 7 })) origin_1
+    ensures found { finding_line Json false false (Some (record { seconds = 5; nanoseconds = 7 })) origin_1
         (findings.Session (sessions.NotNext (record { session = 7; reboot = true }) (record { session = 6; reboot = true })))
         ≡ codes "{\"kind\":\"sd-session\",\"datagram\":12,\"time\":\"5.000000007\",\"from\":\"192.168.0.1:40000\",\"to\":\"192.168.0.2:30490\",\"session\":\"0007\",\"expected\":\"0006\"}\n" }
-    ensures frame { finding_line Json true None origin_1 (findings.Session sessions.Reboot)
+    ensures frame { finding_line Json true false None origin_1 (findings.Session sessions.Reboot)
         ≡ codes "{\"kind\":\"reboot\",\"datagram\":12,\"frame\":14,\"time\":null,\"from\":\"192.168.0.1:40000\",\"to\":\"192.168.0.2:30490\"}\n" }
-    ensures late { finding_line Json false None origin_1 (findings.Call header_1 (calls.Late 300))
+    ensures allowed { finding_line Json true true None origin_1 (findings.Session sessions.Reboot)
+        ≡ codes "{\"kind\":\"reboot\",\"datagram\":12,\"frame\":14,\"time\":null,\"from\":\"192.168.0.1:40000\",\"to\":\"192.168.0.2:30490\",\"allowed\":true}\n" }
+    ensures late { finding_line Json false false None origin_1 (findings.Call header_1 (calls.Late 300))
         ≡ codes "{\"kind\":\"late\",\"datagram\":12,\"time\":null,\"from\":\"192.168.0.1:40000\",\"to\":\"192.168.0.2:30490\",\"ms\":300,\"service\":\"1234\",\"method\":\"0421\",\"client\":\"0101\",\"session\":\"0002\"}\n" }
-    ensures malformed { finding_line Json false None origin_1 (findings.Malformed (wire.Truncated 47))
+    ensures malformed { finding_line Json false false None origin_1 (findings.Malformed (wire.Truncated 47))
         ≡ codes "{\"kind\":\"malformed\",\"datagram\":12,\"time\":null,\"from\":\"192.168.0.1:40000\",\"to\":\"192.168.0.2:30490\",\"name\":\"Truncated\",\"at\":47}\n" }
-    ensures bad_run { finding_line Json false None origin_1 (findings.BadRun instance_1)
+    ensures bad_run { finding_line Json false false None origin_1 (findings.BadRun instance_1)
         ≡ codes "{\"kind\":\"bad-run\",\"datagram\":12,\"time\":null,\"from\":\"192.168.0.1:40000\",\"to\":\"192.168.0.2:30490\",\"service\":\"1234\",\"instance\":\"0001\"}\n" }
-    ensures no_endpoint { finding_line Json false None origin_1 (findings.NoEndpoint instance_1)
+    ensures no_endpoint { finding_line Json false false None origin_1 (findings.NoEndpoint instance_1)
         ≡ codes "{\"kind\":\"no-endpoint\",\"datagram\":12,\"time\":null,\"from\":\"192.168.0.1:40000\",\"to\":\"192.168.0.2:30490\",\"service\":\"1234\",\"instance\":\"0001\"}\n" }
-    ensures error { finding_line Json false None origin_1 (findings.Error error_1)
+    ensures error { finding_line Json false false None origin_1 (findings.Error error_1)
         ≡ codes "{\"kind\":\"error\",\"datagram\":12,\"time\":null,\"from\":\"192.168.0.1:40000\",\"to\":\"192.168.0.2:30490\",\"code\":\"03\",\"service\":\"1234\",\"method\":\"0421\",\"client\":\"0101\",\"session\":\"0002\"}\n" }
-    ensures interface { finding_line Json false None origin_1 (findings.Server other_1 (servers.Interface 1))
+    ensures interface { finding_line Json false false None origin_1 (findings.Server other_1 (servers.Interface 1))
         ≡ codes "{\"kind\":\"interface\",\"datagram\":12,\"time\":null,\"from\":\"192.168.0.1:40000\",\"to\":\"192.168.0.2:30490\",\"interface\":\"02\",\"expected\":\"01\",\"service\":\"1234\",\"method\":\"0421\"}\n" }
-    ensures not_offered { finding_line Json false None origin_1 (findings.Server header_1 servers.NotOffered)
+    ensures not_offered { finding_line Json false false None origin_1 (findings.Server header_1 servers.NotOffered)
         ≡ codes "{\"kind\":\"not-offered\",\"datagram\":12,\"time\":null,\"from\":\"192.168.0.1:40000\",\"to\":\"192.168.0.2:30490\",\"service\":\"1234\",\"method\":\"0421\",\"client\":\"0101\",\"session\":\"0002\"}\n" }
-    ensures gap { finding_line Json false None origin_1 (findings.EventSession flow_1 0x59 (events.Lost 7 0x58))
+    ensures gap { finding_line Json false false None origin_1 (findings.EventSession flow_1 0x59 (events.Lost 7 0x58))
         ≡ codes "{\"kind\":\"event-gap\",\"datagram\":12,\"time\":null,\"from\":\"192.168.0.1:40000\",\"to\":\"192.168.0.2:30490\",\"service\":\"1234\",\"event\":\"8001\",\"session\":\"0007\",\"last\":\"0058\"}\n" }
-    ensures overtaken { finding_line Json false None origin_1
+    ensures overtaken { finding_line Json false false None origin_1
         (findings.Session (sessions.Overtaken (record { session = 5; reboot = true })))
         ≡ codes "{\"kind\":\"sd-overtaken\",\"datagram\":12,\"time\":null,\"from\":\"192.168.0.1:40000\",\"to\":\"192.168.0.2:30490\",\"session\":\"0005\"}\n" }
-    ensures unasked_ack { finding_line Json false None origin_1 (findings.Subscription key_1 subscriptions.UnaskedAck)
+    ensures unasked_ack { finding_line Json false false None origin_1 (findings.Subscription key_1 subscriptions.UnaskedAck)
         ≡ codes "{\"kind\":\"unasked-ack\",\"datagram\":12,\"time\":null,\"from\":\"192.168.0.1:40000\",\"to\":\"192.168.0.2:30490\",\"service\":\"1234\",\"instance\":\"0001\",\"major\":\"02\",\"group\":\"0005\",\"counter\":3}\n" }
-    ensures full { finding_line Json false None origin_1 (findings.Event event_1 receivers.Full)
+    ensures full { finding_line Json false false None origin_1 (findings.Event event_1 receivers.Full)
         ≡ codes "{\"kind\":\"full\",\"datagram\":12,\"time\":null,\"from\":\"192.168.0.1:40000\",\"to\":\"192.168.0.2:30490\",\"name\":\"receivers\"}\n" }
-    ensures missing { due_line Json true (due.Missing missing_1)
+    ensures missing { due_line Json true false (due.Missing missing_1)
         ≡ codes "{\"kind\":\"segments-missing\",\"datagram\":9,\"frame\":11,\"time\":\"7.000000000\",\"from\":\"192.168.0.1:30509\",\"to\":\"192.168.0.2:40001\",\"service\":\"1234\",\"method\":\"0421\",\"client\":\"0101\",\"session\":\"0002\"}\n" }
-    ensures lost { due_line Json false (due.EventLost lost_1)
+    ensures lost { due_line Json false false (due.EventLost lost_1)
         ≡ codes "{\"kind\":\"event-gap\",\"datagram\":8,\"time\":\"9.100000000\",\"from\":\"192.168.0.1:30509\",\"to\":\"192.168.0.2:40000\",\"service\":\"1234\",\"event\":\"8001\",\"session\":\"0009\"}\n" }
-    ensures subscribe { due_line Json false (due.SubscribeUnanswered subscribe_1)
+    ensures subscribe { due_line Json false false (due.SubscribeUnanswered subscribe_1)
         ≡ codes "{\"kind\":\"subscribe-unanswered\",\"datagram\":12,\"time\":\"9.000000000\",\"from\":\"192.168.0.1:40000\",\"to\":\"192.168.0.2:30490\",\"service\":\"1234\",\"instance\":\"0001\",\"major\":\"02\",\"group\":\"0005\",\"counter\":3}\n" }
 {}
 
@@ -236,6 +245,29 @@ pub fn a_summary_counts_by_kind()
         (found origin_1 (findings.Session (sessions.NotNext (record { session = 7; reboot = true })
         (record { session = 6; reboot = true }))) ∷ found origin_1 findings.EndpointsFull ∷ [])
         ≡ codes "{\"kind\":\"audited\",\"datagrams\":3,\"messages\":4,\"findings\":2}\n{\"kind\":\"sd-session\",\"count\":1}\n{\"kind\":\"full\",\"count\":1}\n" }
+{}
+
+/// What the summary tells of the rules of a bench, by example: how many findings are allowed, if any, and of which more
+/// came than a rule allows.
+pub fn rules_are_summed_up()
+    ensures allowed { allowed_text Plain 3 ≡ codes "allowed 3\n" }
+    ensures none { allowed_text Plain 0 ≡ [] }
+    ensures allowed_object { allowed_text Json 3 ≡ codes "{\"kind\":\"allowed\",\"count\":3}\n" }
+    ensures exceeded { exceeded_line Plain kinds.Late five_late
+        ≡ codes "late 1234.0421 at most 2 came 5\n" }
+    ensures any_method { exceeded_line Plain kinds.Late five_late_of_any_method
+        ≡ codes "late 1234.- at most 2 came 5\n" }
+    ensures exceeded_object { exceeded_line Json kinds.Late five_late_of_any_method
+        ≡ codes "{\"kind\":\"late\",\"service\":\"1234\",\"method\":null,\"most\":2,\"came\":5}\n" }
+{}
+
+/// What the summary tells of packets that gave no datagram, by example: each kind of which there were any.
+pub fn packets_left_out_are_summed_up()
+    ensures two_kinds { left_out_text Plain five_left_out
+        ≡ codes "left out 3 not UDP, 2 cut short\n" }
+    ensures none { left_out_text Plain none_left_out ≡ [] }
+    ensures object { left_out_text Json five_left_out
+        ≡ codes "{\"kind\":\"left-out\",\"linktype\":0,\"notipv4\":0,\"notudp\":3,\"cut\":2,\"badlength\":0,\"copies\":0,\"incomplete\":0,\"differing\":0}\n" }
 {}
 
 /// The lines of groups in the summary, by example: with a method, without one, and of what names no service; and as an

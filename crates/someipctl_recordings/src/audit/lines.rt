@@ -1,21 +1,25 @@
 //! The lines of findings.
-ghost use Rattle.std.specs.Prelude.{◌≡◌, ◌∷◌, [], if◌then◌else◌, drop, map};
+ghost use Rattle.std.specs.Prelude.{◌≡◌, ◌++◌, ◌∷◌, [], if◌then◌else◌, drop, map, take, true};
+ghost use Rattle.someip_audit.specs.Audits.{fell, found};
 ghost use Rattle.someip_audit.specs.FellDues.{deadline};
 ghost use Rattle.someipctl_io.specs.ToldItems.{datagram_field};
 ghost use Rattle.someipctl_io.specs.ToldViews.{view_field};
-ghost use Rattle.someipctl_recordings.specs.audit.AuditText.{Puts, due_line, finding_line, is_due_told};
+ghost use Rattle.someipctl_recordings.specs.audit.AuditText.{Puts, due_line, finding_line, is_due_told, is_report_allowed};
 ghost use Rattle.someipctl_recordings.specs.audit.AuditText.{is_found_told, origin_of_due, time_at};
 ghost use Rattle.someipctl_recordings.specs.audit.AskedAudits.{view_asked};
 ghost use Rattle.someipctl_recordings.specs.audit.Said.{said, said_of_due};
 ghost use Rattle.someipctl_recordings.specs.Origins.{frame_field};
-ghost use Rattle.someipctl_recordings.specs.audit.ToldFindings.{endpoint_fields, time_field};
+ghost use Rattle.someipctl_recordings.specs.audit.Notes.{is_allowed};
+ghost use Rattle.someipctl_recordings.specs.audit.ToldFindings.{allowed_field, endpoint_fields, time_field};
 
 use crate::audit::asked::AuditAsked;
-use crate::audit::kind::Kind;
+use crate::audit::group::{group_of_due, group_of_found};
 use crate::audit::says::{put_fallen, put_finding};
 use crate::audit::subject::{is_told, subject_of, subject_of_due};
 use crate::heads::{field_of, said_of_time};
+use audit_rules::{Kind, Rules, Weight};
 use recording::Time;
+use someip_audit::groups::GroupKey;
 use someip_audit::{FellDue, Finding};
 use someip_tables::hashed::Origin;
 use someipctl_io::{Buffer, CannotWrite, Field, LineHead, Said, datagram_field};
@@ -42,11 +46,13 @@ pub(crate) fn put_found<W: Write>(
     origin: &Origin,
     finding: &Finding,
 ) -> Result<Kind, CannotWrite>
-    ensures { Puts (finding_line asked.now.form asked.now.frames time origin.now finding.now) (said finding.now).kind
-        result (W.contents writer.old) buffer.old (W.contents writer.new) buffer.new }
+    ensures { Puts (finding_line asked.now.form asked.now.frames
+        (is_report_allowed (view_asked asked.now) (found origin.now finding.now)) time origin.now finding.now)
+        (said finding.now).kind result (W.contents writer.old) buffer.old (W.contents writer.new) buffer.new }
 {
     let fields = head_fields(time, origin);
-    put_finding(buffer, writer, &head_of(asked, &fields), finding)
+    let allowed = is_allowed(asked.bench, &group_of_found(origin, finding));
+    put_finding(buffer, writer, &head_of(asked, allowed, &fields), finding)
 }
 
 /// Whether what fell due is told.
@@ -68,12 +74,14 @@ pub(crate) fn put_fell_due<W: Write>(
     asked: &AuditAsked<'_>,
     told: &FellDue,
 ) -> Result<Kind, CannotWrite>
-    ensures { Puts (due_line asked.now.form asked.now.frames told.now) (said_of_due told.now).kind result
+    ensures { Puts (due_line asked.now.form asked.now.frames
+        (is_report_allowed (view_asked asked.now) (fell told.now)) told.now) (said_of_due told.now).kind result
         (W.contents writer.old) buffer.old (W.contents writer.new) buffer.new }
 {
     let time = time_at(deadline_of(told));
     let fields = head_fields(Some(time), &origin_of_due(told));
-    put_fallen(buffer, writer, &head_of(asked, &fields), told)
+    let allowed = is_allowed(asked.bench, &group_of_due(told));
+    put_fallen(buffer, writer, &head_of(asked, allowed, &fields), told)
 }
 
 /// What stands before what is said.
@@ -83,15 +91,16 @@ struct HeadFields {
     number: [Field<'static>; 1],
     /// The number of the packet, which is not told unless it is asked for, and the time.
     origin: [Field<'static>; 2],
-    /// Where the datagram came from, and where it went to.
-    place: [Field<'static>; 2],
+    /// Where the datagram came from, and where it went to; and that the finding is allowed, which is not told unless
+    /// it is.
+    place: [Field<'static>; 3],
 }
 
 /// The fields of the head of a line with this time, of a datagram with this origin.
 fn head_fields(time: Option<Time>, origin: &Origin) -> HeadFields
     ensures number { map view_field result.number ≡ datagram_field origin.now.numbers.datagram ∷ [] }
     ensures origin { map view_field result.origin ≡ frame_field origin.now.numbers.frame ∷ time_field time ∷ [] }
-    ensures place { map view_field result.place ≡ endpoint_fields origin.now }
+    ensures place { map view_field result.place ≡ endpoint_fields origin.now ++ allowed_field true }
 {
     HeadFields {
         number: [datagram_field(origin.numbers.datagram as usize)],
@@ -102,22 +111,23 @@ fn head_fields(time: Option<Time>, origin: &Origin) -> HeadFields
         place: [
             field_of(" ", "from", Said::Endpoint(origin.from)),
             field_of(" ", "to", Said::Endpoint(origin.to)),
+            field_of(" allowed", "allowed", Said::Mark),
         ],
     }
 }
 
 /// The head of a line with these fields.
-fn head_of<'h>(asked: &AuditAsked<'_>, fields: &'h HeadFields) -> LineHead<'h>
+fn head_of<'h>(asked: &AuditAsked<'_>, allowed: bool, fields: &'h HeadFields) -> LineHead<'h>
     ensures form { result.form ≡ asked.now.form }
     ensures number { result.number.now ≡ fields.now.number }
     ensures origin { result.origin.now ≡ (if asked.now.frames then fields.now.origin else drop 1 fields.now.origin) }
-    ensures place { result.place.now ≡ fields.now.place }
+    ensures place { result.place.now ≡ (if allowed then fields.now.place else take 2 fields.now.place) }
 {
     LineHead {
         form: asked.form,
         number: &fields.number,
         origin: origin_fields(asked.frames, &fields.origin),
-        place: &fields.place,
+        place: place_fields(allowed, &fields.place),
     }
 }
 
@@ -129,6 +139,26 @@ fn origin_fields<'h>(frames: bool, fields: &'h [Field<'h>; 2]) -> &'h [Field<'h>
         return fields;
     }
     &fields[1..]
+}
+
+/// The endpoints, and that the finding is allowed, if it is.
+fn place_fields<'h>(allowed: bool, fields: &'h [Field<'h>; 3]) -> &'h [Field<'h>]
+    ensures { result.now ≡ (if allowed then fields.now else take 2 fields.now) }
+{
+    if allowed {
+        return fields;
+    }
+    &fields[..2]
+}
+
+/// Whether findings of such a group are allowed by rules.
+fn is_allowed(bench: &Rules, key: &GroupKey) -> bool
+    ensures { result ≡ is_allowed bench.now key.now }
+{
+    matches!(
+        bench.weight(key.kind, key.service, key.method),
+        Weight::Allowed
+    )
 }
 
 /// A moment, in milliseconds since 1970, as a time.

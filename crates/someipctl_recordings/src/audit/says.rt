@@ -9,15 +9,15 @@ ghost use Rattle.someipctl_recordings.specs.audit.ToldFindings.{due_fields, fiel
 ghost use Rattle.someipctl_recordings.specs.audit.ToldFindings.{fields_of_receivers, fields_of_server, fields_of_session};
 ghost use Rattle.someipctl_recordings.specs.audit.ToldFindings.{fields_of_subscription, finding_fields, full_fields};
 ghost use Rattle.someipctl_recordings.specs.audit.ToldFindings.{malformed_fields};
-ghost use Rattle.someipctl_recordings.specs.declared.audit.kind.Kind.TheVariants as kinds;
+ghost use Rattle.audit_rules.specs.declared.kind.Kind.TheVariants as kinds;
 
 use crate::audit::fields::{
     call_fields, error_fields, event_fields, event_session_fields, expected_field, header_fields,
     instance_fields, interface_fields, last_field, late_fields, offer_fields, segment_fields,
     session_field, subscription_fields,
 };
-use crate::audit::kind::Kind;
 use crate::heads::field_of;
+use audit_rules::Kind;
 use audit_sd::offers::OfferKey;
 use audit_sd::subscriptions::SubscriptionKey;
 use audit_traffic::calls::CallFinding;

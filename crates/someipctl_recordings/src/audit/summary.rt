@@ -9,12 +9,12 @@ ghost use Rattle.someipctl_io.specs.ToldViews.{view_field};
 ghost use Rattle.someipctl_io.specs.declared.form.Form.TheVariants.{Json, Plain};
 ghost use Rattle.someipctl_show.specs.VerdictForms.{no_head, wordless};
 ghost use Rattle.someipctl_recordings.specs.audit.AuditText.{Looked, audited_told, counted_line, kind_line, summary_text};
-ghost use Rattle.someipctl_recordings.specs.audit.Kinds.{all_kinds, kind_words};
+ghost use Rattle.audit_rules.specs.Kinds.{all_kinds, kind_words};
 ghost use Rattle.someipctl_recordings.specs.audit.Tallies.{Counts, looked_in, tally_kinds, tally_line};
 
-use crate::audit::kind::{KIND_COUNT, Kind, kinds};
 use crate::audit::tally::Tally;
 use crate::heads::field_of;
+use audit_rules::{KIND_COUNT, Kind, kinds};
 use someipctl_io::{
     Buffer, CannotWrite, Field, Form, Line, LineHead, Part, Said, put_line, put_parts,
 };

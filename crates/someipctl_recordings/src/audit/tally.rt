@@ -3,12 +3,13 @@
 //! Where 2^64 things were counted, the audit ends as where memory runs out: no recording has so many
 //! datagrams.
 ghost use Rattle.std.specs.Prelude.{◌≡◌, ◌≤◌, ◌<◌, ◌+◌, ◌^◌, [], IfOk, OnErr, OnOk};
-ghost use Rattle.someipctl_recordings.specs.audit.Groupings.{grouped, groups_begun, is_shown};
+ghost use Rattle.someipctl_recordings.specs.audit.Notes.{is_shown, note, noted_begun};
 ghost use Rattle.someipctl_recordings.specs.audit.SeenIn.{none_looked};
 ghost use Rattle.someipctl_recordings.specs.audit.Tallies.{Counts, most_looked, most_told, tally_after, tally_looked, tally_passed};
 
-use crate::audit::kind::{KIND_COUNT, Kind};
-use someip_audit::groups::{GroupBook, GroupKey};
+use crate::audit::noted::Noted;
+use audit_rules::{KIND_COUNT, Kind, Rules};
+use someip_audit::groups::GroupKey;
 use std::alloc::{AllocError, Global};
 
 /// What an audit counted so far.
@@ -26,36 +27,34 @@ pub(crate) struct Tally {
     pub(crate) findings: usize,
     /// How many of each kind, at its number.
     pub(crate) kinds: [usize; KIND_COUNT],
-    /// How many of each group, if findings are grouped.
-    pub(crate) groups: Option<GroupBook>,
+    /// What is noted of those that were told.
+    pub(crate) noted: Noted,
 }
 
 impl Tally {
-    /// Nothing yet. Findings may be grouped.
-    pub(crate) fn new(alloc: Global, group: bool) -> Tally
-        ensures counts { Counts result [] none_looked }
-        ensures groups { result.groups ≡ groups_begun group }
+    /// Nothing yet, by the rules of a bench. Findings may be grouped.
+    pub(crate) fn new(alloc: Global, group: bool, bench: &Rules) -> Result<Tally, AllocError>
+        ensures counts { IfOk result (λ tally. Counts tally [] none_looked) }
+        ensures noted { IfOk result (λ tally. tally.noted ≡ noted_begun group bench.now) }
     {
-        Tally {
+        let noted = Noted::new(alloc, group, bench)?;
+        Ok(Tally {
             datagrams: 0,
             messages: 0,
             passed: 0,
             reports: 0,
             findings: 0,
             kinds: [0; KIND_COUNT],
-            groups: groups_begun(alloc, group),
-        }
+            noted,
+        })
     }
 
     /// Takes note of one more of a group, and says whether it is shown. The error is that memory ran out.
     pub(crate) fn shows(&mut self, key: GroupKey) -> Result<bool, AllocError>
-        ensures shown { IfOk result (λ shown. shown ≡ is_shown self.old.groups key) }
-        ensures after { IfOk result (λ shown. self.new ≡ record self.old { groups = grouped key self.old.groups }) }
+        ensures shown { IfOk result (λ shown. shown ≡ is_shown self.old.noted key) }
+        ensures after { IfOk result (λ shown. self.new ≡ record self.old { noted = note key self.old.noted }) }
     {
-        match &mut self.groups {
-            Some(groups) => groups.came(key),
-            None => Ok(true),
-        }
+        self.noted.shows(key)
     }
 
     /// Counts one more finding of a kind, which is told. The error is that there is no room for its number.
@@ -98,17 +97,6 @@ impl Tally {
         self.messages = self.messages.checked_add(messages).ok_or(AllocError)?;
         self.datagrams = datagrams;
         Ok(())
-    }
-}
-
-/// A book of groups, if findings are grouped.
-fn groups_begun(alloc: Global, group: bool) -> Option<GroupBook>
-    ensures { result ≡ groups_begun group }
-{
-    if group {
-        Some(GroupBook::new(alloc, 65536))
-    } else {
-        None
     }
 }
 

@@ -11,9 +11,11 @@ ghost use Rattle.someipctl_show.specs.VerdictForms.{no_head, wordless};
 ghost use Rattle.someipctl_recordings.specs.audit.Unjudged.{no_offer_line, offer_text, one_way_told, one_ways_text, passed_line};
 ghost use Rattle.someipctl_recordings.specs.audit.Unjudged.{passed_text, scope_text, unjudged_text, was_offered, ways_alone};
 
+use crate::audit::left_out::put_left_out;
 use crate::audit::summary::put_object;
 use crate::heads::field_of;
 use audit_traffic::ways::OneWay;
+use recording_packets::LeftOut;
 use someip_audit::Audit;
 use someip_reassembly::Reassembly;
 use someipctl_io::{
@@ -23,9 +25,29 @@ use std::alloc::{AllocError, Global};
 use std::convert::Infallible;
 use std::io::Write;
 
-/// Prints what could not be judged, where so many datagrams were not looked at, and the audit is this one at its
-/// end, if it began.
+/// Prints what could not be judged, where these packets gave no datagram, so many datagrams were not looked at, and
+/// the audit is this one at its end, if it began.
 pub(crate) fn put_unjudged<S: Reassembly + Drop, W: Write>(
+    buffer: &mut Buffer,
+    writer: &mut W,
+    form: Form,
+    alloc: Global,
+    left_out: &LeftOut,
+    passed: usize,
+    audit: &Option<Audit<S>>,
+) -> Result<(), Fault<Infallible>>
+    ensures ok { OnOk result (Sends (W.contents writer.old) buffer.old (W.contents writer.new)
+        buffer.new (unjudged_text form left_out.now passed audit.now)) }
+    ensures err { OnErr result (Stops (W.contents writer.old) buffer.old (W.contents writer.new)
+        (unjudged_text form left_out.now passed audit.now)) }
+    ensures read { IfErr result (λ fault. fault ≡ CannotRead → ⊥) }
+{
+    put_left_out(buffer, writer, form, left_out)?;
+    put_datagrams(buffer, writer, form, alloc, passed, audit)
+}
+
+/// Prints how many datagrams were not looked at, whether an Offer was seen, and the ways that messages went alone.
+fn put_datagrams<S: Reassembly + Drop, W: Write>(
     buffer: &mut Buffer,
     writer: &mut W,
     form: Form,
@@ -34,9 +56,9 @@ pub(crate) fn put_unjudged<S: Reassembly + Drop, W: Write>(
     audit: &Option<Audit<S>>,
 ) -> Result<(), Fault<Infallible>>
     ensures ok { OnOk result (Sends (W.contents writer.old) buffer.old (W.contents writer.new)
-        buffer.new (unjudged_text form passed audit.now)) }
+        buffer.new (scope_text form passed (was_offered audit.now) ++ one_ways_text form (ways_alone audit.now))) }
     ensures err { OnErr result (Stops (W.contents writer.old) buffer.old (W.contents writer.new)
-        (unjudged_text form passed audit.now)) }
+        (scope_text form passed (was_offered audit.now) ++ one_ways_text form (ways_alone audit.now))) }
     ensures read { IfErr result (λ fault. fault ≡ CannotRead → ⊥) }
 {
     put_scope(buffer, writer, form, passed, was_offered(audit))?;

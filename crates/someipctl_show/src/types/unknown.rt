@@ -35,8 +35,8 @@ fn unknown_member<'a>(members: &'a Table, known: &[&str]) -> Option<&'a String>
     members.keys().find(|key| is_unknown(key.as_str(), known))
 }
 
-/// The least key of a table that it may not have.
-fn first_unknown<'a>(table: &'a Value, known: &[&str]) -> Option<&'a str>
+/// The least key of a table that is none of these. What is no table has none.
+pub fn first_unknown<'a>(table: &'a Value, known: &[&str]) -> Option<&'a str>
     ensures { IsUnknownIn (map (λ k. k.now) known.now) (view table.now) (option_map (λ key. key.now) result) }
 {
     let Some(members) = table.as_table() else {

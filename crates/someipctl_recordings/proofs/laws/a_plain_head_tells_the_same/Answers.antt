@@ -1,12 +1,12 @@
-use Rattle.std.proofs.Common.{◌≡◌, ℕ, Bool, true, false, List, [], ◌∷◌, ◌++◌, codes, decimal, Option, None, Some, refl, ap, ◌∙◌, append_assoc}
+use Rattle.std.proofs.Common.{◌≡◌, ℕ, Bool, true, false, List, [], ◌∷◌, ◌++◌, codes, Option, None, Some, refl, ap, ◌∙◌, append_assoc}
 use Rattle.std.proofs.lemmas.List.{append-nil}
 use Rattle.std.specs.Net.Text.{socket_v4_text}
 use Rattle.recording.specs.declared.Time.{Time}
 use Rattle.recording.specs.Packets.{DatagramValue}
 use Rattle.recording_packets.specs.Intake.{ArrivalValue}
 use Rattle.someipctl_io.specs.declared.form.Form.TheVariants.{Plain}
-use Rattle.someipctl_io.specs.ToldItems.{datagram_head, head_from}
-use Rattle.someipctl_io.specs.ToldLines.{ToldLine, content_text, end_text, fields_text, line_text, origin_text, word_part}
+use Rattle.someipctl_io.specs.ToldItems.{datagram_head}
+use Rattle.someipctl_io.specs.ToldLines.{content_text, end_text, fields_text, line_text, origin_text, word_part}
 use Rattle.someipctl_recordings.specs.declared.asked.Heads.{Heads}
 use Rattle.someipctl_recordings.specs.Gathered.{socket_of}
 use Rattle.someipctl_recordings.specs.Origins.{endpoint_fields, fields_if, frame_field, origin_fields, said_of_time}

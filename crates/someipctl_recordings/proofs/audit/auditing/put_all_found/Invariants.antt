@@ -9,5 +9,5 @@ use Rattle.someipctl_recordings.proofs.audit.auditing.put_all_found.Given as goa
 -- the findings so far were printed, and counted
 abbrev pub invariant-loop-finding : goal.invariant-loop-finding
 invariant-loop-finding g l =
-    IsSending (g.W.Write.contents l.initial.writer) l.initial.buffer (g.W.Write.contents l.writer) l.buffer (lines_at (view_asked l.asked) l.time l.tally.groups (map (found l.origin) (drop l.finding-index l.findings))) (lines_at (view_asked l.asked) l.time l.initial.tally.groups (map (found l.origin) l.findings))
+    IsSending (g.W.Write.contents l.initial.writer) l.initial.buffer (g.W.Write.contents l.writer) l.buffer (lines_at (view_asked l.asked) l.time l.tally.noted (map (found l.origin) (drop l.finding-index l.findings))) (lines_at (view_asked l.asked) l.time l.initial.tally.noted (map (found l.origin) l.findings))
     × ((later : Tally) → CountsMore l.tally later (told_at (view_asked l.asked) l.time (map (found l.origin) (drop l.finding-index l.findings))) → CountsMore l.initial.tally later (told_at (view_asked l.asked) l.time (map (found l.origin) l.findings)))

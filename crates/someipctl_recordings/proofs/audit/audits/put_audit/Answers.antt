@@ -29,7 +29,7 @@ returns-in-Fault-clause-puts g c =
     let none = rw c.in-Fault.is at c.in_ok-coming.ensures.ended in
     if_ok_three c.put_end.result _ _ _ _
     (λ shown end faulty left. audit_fault (view_asked c.args.asked.now) (map g.R.Read.remaining c.args.sources.now) (map g.R.Read.remaining c.loop-file.sources) c.loop-file.file c.loop-file.recording c.next_coming.new.recording (g.R.Read.remaining c.next_coming.new.source) _ _ _ _ c.loop-file.buffer c.next_coming.new.buffer _ c.loop-file.auditing.audit c.loop-file.gone c.loop-file.intake c.in-Fault.fault shown
-    is (within_map g.R.Read.remaining c.loop-file.sources c.loop-file.file c.loop-file-test.true) comes none c.in_ok-coming.ensures.sends end faulty (left ∙ c.left_out.ensures))
+    is (within_map g.R.Read.remaining c.loop-file.sources c.loop-file.file c.loop-file-test.true) comes none c.in_ok-coming.ensures.sends c.left_out.result c.left_out.ensures end faulty (left ∙ c.left_out.ensures))
     (c.put_end.ensures.puts (told_now (view_asked c.args.asked.now) is.done is.reports) is.looked (counts_now (view_asked c.args.asked.now) _ _ _ _ _ _ _ _ _ _ is)) c.put_end.ensures.fault c.put_end.ensures.left_out
 
 pub returns-in-Fault-clause-begun : goal.returns-in-Fault-clause-begun
@@ -38,7 +38,7 @@ returns-in-Fault-clause-begun g c =
     let comes = comes_own g.R.Read.remaining c.loop-file.sources c.loop-file.file c.index-sources-file.result c.loop-file.recording c.next_coming.new.recording (g.R.Read.remaining c.next_coming.new.source) (Err c.in-Fault.fault ∷ []) c.loop-file-test.true (rw c.in-Fault.is at c.in_ok-coming.ensures.comes) in
     let none = rw c.in-Fault.is at c.in_ok-coming.ensures.ended in
     on_err_weaker c.put_end.result
-    (audit_fault_stops (view_asked c.args.asked.now) (map g.R.Read.remaining c.args.sources.now) (map g.R.Read.remaining c.loop-file.sources) c.loop-file.file c.loop-file.recording c.next_coming.new.recording (g.R.Read.remaining c.next_coming.new.source) _ _ _ _ c.loop-file.buffer c.next_coming.new.buffer c.loop-file.auditing.audit c.loop-file.gone c.loop-file.intake c.in-Fault.fault is (within_map g.R.Read.remaining c.loop-file.sources c.loop-file.file c.loop-file-test.true) comes none c.in_ok-coming.ensures.sends)
+    (audit_fault_stops (view_asked c.args.asked.now) (map g.R.Read.remaining c.args.sources.now) (map g.R.Read.remaining c.loop-file.sources) c.loop-file.file c.loop-file.recording c.next_coming.new.recording (g.R.Read.remaining c.next_coming.new.source) _ _ _ _ c.loop-file.buffer c.next_coming.new.buffer c.loop-file.auditing.audit c.loop-file.gone c.loop-file.intake c.in-Fault.fault is (within_map g.R.Read.remaining c.loop-file.sources c.loop-file.file c.loop-file-test.true) comes none c.in_ok-coming.ensures.sends c.left_out.result c.left_out.ensures)
     (c.put_end.ensures.stops (told_now (view_asked c.args.asked.now) is.done is.reports) is.looked (counts_now (view_asked c.args.asked.now) _ _ _ _ _ _ _ _ _ _ is))
 
 pub loop-file-smaller-in-End : goal.loop-file-smaller-in-End
@@ -94,12 +94,12 @@ returns-clause-puts g c =
     let is = c.loop-file.invariant.0 in
     if_ok_three c.put_end-2.result _ _ _ _
     (λ shown end faulty left. audit_ends (view_asked c.args.asked.now) (map g.R.Read.remaining c.args.sources.now) (map g.R.Read.remaining c.loop-file.sources) c.loop-file.file c.loop-file.recording _ _ _ c.loop-file.buffer _ c.loop-file.auditing.audit c.loop-file.gone c.loop-file.intake shown
-    is (past_map g.R.Read.remaining c.loop-file.sources c.loop-file.file c.loop-file-test.false) end faulty (left ∙ c.left_out-2.ensures))
+    is (past_map g.R.Read.remaining c.loop-file.sources c.loop-file.file c.loop-file-test.false) c.left_out-2.result c.left_out-2.ensures end faulty (left ∙ c.left_out-2.ensures))
     (c.put_end-2.ensures.puts (told_now (view_asked c.args.asked.now) is.done is.reports) is.looked (counts_now (view_asked c.args.asked.now) _ _ _ _ _ _ _ _ _ _ is)) c.put_end-2.ensures.fault c.put_end-2.ensures.left_out
 
 pub returns-clause-begun : goal.returns-clause-begun
 returns-clause-begun g c =
     let is = c.loop-file.invariant.0 in
     on_err_weaker c.put_end-2.result
-    (audit_end_stops (view_asked c.args.asked.now) (map g.R.Read.remaining c.args.sources.now) (map g.R.Read.remaining c.loop-file.sources) c.loop-file.file c.loop-file.recording _ _ _ c.loop-file.buffer c.loop-file.auditing.audit c.loop-file.gone c.loop-file.intake is (past_map g.R.Read.remaining c.loop-file.sources c.loop-file.file c.loop-file-test.false))
+    (audit_end_stops (view_asked c.args.asked.now) (map g.R.Read.remaining c.args.sources.now) (map g.R.Read.remaining c.loop-file.sources) c.loop-file.file c.loop-file.recording _ _ _ c.loop-file.buffer c.loop-file.auditing.audit c.loop-file.gone c.loop-file.intake is (past_map g.R.Read.remaining c.loop-file.sources c.loop-file.file c.loop-file-test.false) c.left_out-2.result c.left_out-2.ensures)
     (c.put_end-2.ensures.stops (told_now (view_asked c.args.asked.now) is.done is.reports) is.looked (counts_now (view_asked c.args.asked.now) _ _ _ _ _ _ _ _ _ _ is))

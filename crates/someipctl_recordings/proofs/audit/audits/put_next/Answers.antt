@@ -23,7 +23,7 @@ stood asked seen (Some other) state is = cc
 
 pub returns-in_err-begin_with-clause-stops : goal.returns-in_err-begin_with-clause-stops
 returns-in_err-begin_with-clause-stops g c =
-    OnErr-any c.from_residual.result (begin_stops (view_asked c.args.asked.now) c.args.seen.now c.args.auditing.now.audit c.args.tally.now.groups (g.W.Write.contents c.args.writer.now) c.args.buffer.now)
+    OnErr-any c.from_residual.result (begin_stops (view_asked c.args.asked.now) c.args.seen.now c.args.auditing.now.audit c.args.tally.now.noted (g.W.Write.contents c.args.writer.now) c.args.buffer.now)
 
 pub returns-clause-puts : goal.returns-clause-puts
 returns-clause-puts g c =

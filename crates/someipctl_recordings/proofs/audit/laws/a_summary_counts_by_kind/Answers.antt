@@ -2,7 +2,7 @@ use Rattle.std.proofs.Common.{refl}
 use Rattle.std.specs.Fmt.{digits}
 use Rattle.hex.specs.Hex.{encode_with}
 use Rattle.json.specs.Print.{escape_byte}
-use Rattle.someipctl_recordings.specs.audit.Kinds.{all_kinds}
+use Rattle.audit_rules.specs.Kinds.{all_kinds}
 use Rattle.someipctl_recordings.proofs.audit.laws.a_summary_counts_by_kind.Goals as goal
 
 pub returns : goal.returns

@@ -15,4 +15,6 @@ returns c = record {
   expired = refl;
   subscribe = refl;
   lost = refl;
+  allowed = refl;
+  allowed_frame = refl;
 }
