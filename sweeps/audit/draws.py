@@ -3,6 +3,7 @@ and IDs, so that their keys meet. Nothing in them need make sense."""
 import struct
 
 import wire
+from model import KINDS
 
 SERVERS = [wire.address("192.168.0.1"), wire.address("192.168.0.2")]
 CLIENTS = [wire.address("192.168.0.3"), wire.address("192.168.0.1")]
@@ -10,6 +11,7 @@ GROUP = wire.address("239.0.0.1")
 SERVER_PORTS, CLIENT_PORTS = (30509, 30510), (40001, 40002)
 FLAGGED, UNFLAGGED = 0xC0, 0x40
 MILLISECOND = 10**6
+SERVICES, METHODS = (0x1111, 0x2222), (0x0421, 0x0422, 0x8001, 0x8002)
 STEPS = (0, 0, 0, 1, 1, 3, 10, 100, 250, 500, 500, 999, 1000, 1000, 1001, 2000, 3000, 5000)
 CODES = (1, 3, 0x0A, 0xFF)
 PAYLOADS = [b"", b"\1", b"\2", bytes(64), bytes(65), bytes(64) + b"\1", bytes(63) + b"\1\0"]
@@ -51,7 +53,7 @@ class Draws:
         return self.client(), self.mostly(*CLIENT_PORTS)
 
     def service(self):
-        return self.mostly(0x1111, 0x2222)
+        return self.mostly(*SERVICES)
 
     def next_session(self, key, first):
         """The next session of what this key counts; or now and then another one."""
@@ -215,6 +217,27 @@ class Draws:
         if self.chance(0.3):
             words += ["--group"]
         return words
+
+    def bench(self):
+        """The text of a file of rules."""
+        return "".join(self.rule() for _ in range(self.one(1, 1, 2, 4)))
+
+    def rule(self):
+        lines = ["[[rule]]"]
+        if self.chance(0.7):
+            lines.append(f"service = {self.one(*SERVICES)}")
+            if self.chance(0.5):
+                lines.append(f"method = {self.one(*METHODS)}")
+        if self.chance(0.5):
+            lines.append(f"answer_ms = {self.one(1, 400, 1000, 5000)}")
+        if self.chance(0.7):
+            kinds = self.some.sample(KINDS, self.one(1, 3, 8))
+            lines.append(f"allow = [{', '.join(f'{chr(34)}{kind}{chr(34)}' for kind in kinds)}]")
+        if self.chance(0.6):
+            kinds = self.some.sample(KINDS, self.one(1, 3, 8))
+            bounds = ", ".join(f'"{kind}" = {self.one(0, 1, 2, 5)}' for kind in kinds)
+            lines.append(f"at_most = {{ {bounds} }}")
+        return "".join(f"{line}\n" for line in lines)
 
 
 def drawn(some):

@@ -1,10 +1,11 @@
 """What `someipctl audit` has to print of a recording, told from docs/AUDIT.md and not from the sources. It keeps whole
 lists of what was seen, and looks back over them for each finding; nothing is forgotten, and nothing is ever full.
 
-    model.py [--ports PORTS] [--answer-ms N] [--settle-ms N] [--overtake-ms N] [--sessions HOW] [--group] RECORDING
+    model.py [--ports PORTS] [--answer-ms N] [--settle-ms N] [--overtake-ms N] [--sessions HOW] [--rules FILE] [--group] RECORDING
 """
 import re
 import sys
+import tomllib
 from collections import Counter, defaultdict
 from typing import Callable, NamedTuple, Optional
 
@@ -35,6 +36,18 @@ class Rules(NamedTuple):
     overtake: int = 100
     by_sender: bool = False
     group: bool = False
+    bench: tuple = ()
+
+    def first(self, service, method):
+        """The number of the first rule of the bench that fits what names this service and this method, or none."""
+        for number, rule in enumerate(self.bench):
+            if rule.get("service", service) == service and rule.get("method", method) == method:
+                return number
+        return None
+
+    def answer_of(self, header):
+        number = self.first(header.service, header.method)
+        return self.answer if number is None else self.bench[number].get("answer_ms", self.answer)
 
 
 class Finding(NamedTuple):
@@ -45,10 +58,10 @@ class Finding(NamedTuple):
     kind: str
     text: str
 
-    def line(self):
+    def line(self, allowed):
         named = self.datagram
         ends = f"{wire.endpoint_text(named.source)} {wire.endpoint_text(named.destination)}"
-        return f"{self.time} {named.number} {ends} {self.text}"
+        return f"{self.time} {named.number} {ends} {'allowed ' if allowed else ''}{self.text}"
 
     def named(self):
         """The service and the method or event that it names, and - for one that it does not."""
@@ -57,11 +70,19 @@ class Finding(NamedTuple):
             return "-.-"
         return f"{ids[1]}.-" if self.kind in OF_SERVICES else ids[0]
 
+    def ids(self):
+        """The service and the method that it names, as numbers, and None for one that it does not."""
+        return [None if word == "-" else int(word, 16) for word in self.named().split(".")]
+
     def group(self):
         return KINDS.index(self.kind), self.named(), self.datagram.source, self.datagram.destination
 
 
 # ---- Texts
+
+def id_text(number):
+    return "-" if number is None else f"{number:04x}"
+
 
 def group_text(group, more):
     kind, named, source, destination = group
@@ -91,8 +112,9 @@ def subscription_text(entry):
 class Audit:
     """All that was seen in a recording, and what it shows."""
 
-    def __init__(self, records, rules):
+    def __init__(self, records, rules, left_out=""):
         self.rules = rules
+        self.left_out = left_out
         self.datagrams = datagrams_of(records)
         self.begin = self.datagrams[0].moment if self.datagrams else 0
         self.looked = looked_at(self.datagrams, rules.ports, rules.is_learning)
@@ -126,14 +148,49 @@ class Audit:
         for finding in told:
             groups[finding.group()] += 1
             if not self.rules.group or groups[finding.group()] <= SHOWN:
-                lines.append(self.head(finding) + finding.line())
+                lines.append(self.head(finding) + finding.line(self.is_allowed(finding)))
         lines.append(f"audited {len(self.looked)} datagrams, {self.messages} messages, {len(told)} findings")
         kinds = [finding.kind for finding in told]
         lines += [f"{kind} {kinds.count(kind)}" for kind in KINDS if kind in kinds]
         if self.rules.group:
             lines += [group_text(group, number - SHOWN) for group, number in sorted(groups.items()) if number > SHOWN]
+        lines += self.weighed(told)
+        lines += [self.left_out] if self.left_out else []
         lines += unjudged(len(self.datagrams) - len(self.looked), self.seen)
         return "".join(f"{line}\n" for line in lines)
+
+    def rule_of(self, finding):
+        """The first rule that fits a finding, with its number."""
+        number = self.rules.first(*finding.ids())
+        return (None, {}) if number is None else (number, self.rules.bench[number])
+
+    def is_bounded(self, finding):
+        return finding.kind in self.rule_of(finding)[1].get("at_most", {})
+
+    def is_allowed(self, finding):
+        return not self.is_bounded(finding) and finding.kind in self.rule_of(finding)[1].get("allow", [])
+
+    def exceeded(self, told):
+        """Of which kinds more came by which rule than may."""
+        came = Counter((finding.kind, self.rule_of(finding)[0]) for finding in told if self.is_bounded(finding))
+        bounds = [(kind, number, self.rules.bench[number]["at_most"][kind]) for kind, number in came]
+        return sorted((KINDS.index(kind), number, most, came[kind, number]) for kind, number, most in bounds
+                      if came[kind, number] > most)
+
+    def weighed(self, told):
+        """How many findings are allowed, and of which kinds more came than may."""
+        allowed = sum(map(self.is_allowed, told))
+        lines = [f"allowed {allowed}"] if allowed else []
+        for kind, number, most, came in self.exceeded(told):
+            rule = self.rules.bench[number]
+            about = f"{id_text(rule.get('service'))}.{id_text(rule.get('method'))}"
+            lines.append(f"{KINDS[kind]} {about} at most {most} came {came}")
+        return lines
+
+    def fails(self):
+        """Whether the exit status is 1."""
+        told = [finding for finding in self.findings if finding.kind == "full" or self.rules.chosen(finding)]
+        return bool(self.exceeded(told)) or any(not self.is_allowed(one) and not self.is_bounded(one) for one in told)
 
     def tell(self, seen, turn, kind, text=""):
         """Tells a finding that something seen shows; `turn` orders those of one thing."""
@@ -260,7 +317,7 @@ class Audit:
 
     def is_open(self, part, moment):
         """Whether the call that the first of these opened is open at this moment, no answer having come."""
-        opened = bool(part) and is_request(part[0]) and moment < part[0].moment + self.rules.answer
+        opened = bool(part) and is_request(part[0]) and moment < part[0].moment + self.rules.answer_of(part[0].value[0])
         return opened and all(map(is_request, part))
 
     def is_same_question(self, part, seen):
@@ -272,7 +329,7 @@ class Audit:
         answers = [seen for seen in part if not is_request(seen)]
         if not part or not is_request(part[0]):
             return self.judge_unasked(answers)
-        deadline = part[0].moment + self.rules.answer
+        deadline = part[0].moment + self.rules.answer_of(part[0].value[0])
         is_overdue = (until is None or deadline <= until) and not any(seen.moment < deadline for seen in answers)
         if is_overdue:
             self.tell_due(part[0], deadline, CALLS, key, "unanswered", " " + call_text(part[0].value[0]))
@@ -280,14 +337,14 @@ class Audit:
             if is_overdue:
                 self.tell(seen, 0, "late", f" {seen.moment - part[0].moment} ms {call_text(seen.value[0])}")
         for seen in answers[1:]:
-            if seen.moment < answers[0].moment + self.rules.answer:
+            if seen.moment < answers[0].moment + self.rules.answer_of(seen.value[0]):
                 self.tell(seen, 0, "repeated", " " + call_text(seen.value[0]))
             else:
                 self.judge_unasked([seen])
 
     def judge_unasked(self, answers):
         for seen in answers:
-            if seen.moment >= self.begin + self.rules.answer:
+            if seen.moment >= self.begin + self.rules.answer_of(seen.value[0]):
                 self.tell(seen, 0, "unasked", " " + call_text(seen.value[0]))
 
     def find_errors(self):
@@ -678,6 +735,9 @@ def rules_of(words):
             rules = rules._replace(overtake=int(value))
         elif option == "--sessions":
             rules = rules._replace(by_sender=value == "sender")
+        elif option == "--rules":
+            with open(value, "rb") as file:
+                rules = rules._replace(bench=tuple(tomllib.load(file).get("rule", ())))
         else:
             sys.exit(f"model: no option {option}")
     return rules, words

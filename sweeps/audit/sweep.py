@@ -2,7 +2,7 @@
 
     sweep.py PROGRAM [--seed SEED] [--count COUNT] [SORT..]
 
-SORT is `calm`, `rough`, `drawn` or `crowds`. A recording of which the two differ is kept, with both texts.
+SORT is `calm`, `rough`, `drawn`, `ruled` or `crowds`. A recording of which the two differ is kept, with both texts.
 
 `sweeps/run audit` calls `someipctl audit` on recordings, and compares what it prints, byte for byte, and its exit
 status with what is expected. It needs Python 3, and nothing beside its standard library. What is expected is told by
@@ -21,6 +21,8 @@ Recordings: what they are; what is expected
   1000 `drawn`: of drawn datagrams, which need make no sense: messages of Service Discovery, calls, events, segments,
     with bytes that are cut or changed, over few addresses and IDs, so that keys meet; with times that go back, stand
     still or are not there, with packets that are no datagrams, and with drawn options; what the model tells
+  1000 `ruled`: drawn as those, with drawn rules: of services and methods, with times of answers, kinds that are allowed
+    and kinds of which only so many may come; what the model tells, and the exit status
   13 `crowds`: a table of an audit comes to its limit of 65,536 keys, one for each table; and calls that were answered
     fill theirs, in one that goes on while they are known, and in one that goes on when they no longer are; `full
     NAME` at the first thing that finds no room, and nothing else
@@ -48,8 +50,19 @@ import story
 KEPT = Path(os.environ.get("TMPDIR", "/tmp")) / "someipctl-audit"
 EXAMPLES = Path(__file__).resolve().parents[2] / "examples"
 WORLDS = 20
-SORTS = ["calm", "rough", "drawn", "crowds"]
+SORTS = ["calm", "rough", "drawn", "ruled", "crowds"]
 UNJUDGED = ("not looked at ", "no Offer ", "one way ")
+WEIGHED = ("allowed ", " at most ")
+
+
+# Which packets give no datagram, the part `taps` looks at.
+LEFT_OUT = "\nleft out "
+
+
+def without_left_out(text):
+    """A text without the line of packets that gave no datagram."""
+    before, line, behind = text.partition(LEFT_OUT)
+    return before + "\n" + behind.partition("\n")[2] if line else text
 
 
 class Sweep:
@@ -57,7 +70,7 @@ class Sweep:
         self.program, self.seed, self.folder = program, seed, Path(folder)
         self.counts, self.kinds = collections.Counter(), collections.Counter()
         self.calm_types = set()
-        self.unjudged, self.groups = set(), 0
+        self.unjudged, self.weighed, self.groups = set(), set(), 0
         self.differences = 0
 
     def generator(self, *words):
@@ -69,11 +82,14 @@ class Sweep:
         done = subprocess.run([self.program, "audit", *words, str(path)], capture_output=True, check=False)
         return done.stdout.decode("utf8", "replace"), done.returncode
 
-    def judge(self, sort, name, data, words, expected):
-        """Compares what is printed of a recording with what is expected."""
+    def judge(self, sort, name, data, words, expected, fails=None):
+        """Compares what is printed of a recording, and the exit status, with what is expected: 1 where it fails, and
+        without rules where anything is told."""
         path = self.folder / "recording"
         path.write_bytes(data)
         got, status = self.printed(words, path)
+        if LEFT_OUT not in expected:
+            got = without_left_out(got)
         lines = expected.splitlines()
         at = next(at for at, line in enumerate(lines) if line.startswith("audited "))
         summary, findings = lines[at + 1:], int(lines[at].split(" ")[-2])
@@ -81,9 +97,10 @@ class Sweep:
         self.counts["datagrams"] += int(lines[at].split(" ")[1])
         counted = [line.rpartition(" ") for line in summary]
         self.kinds.update({kind: int(number) for kind, _, number in counted if kind in model.KINDS})
+        self.weighed.update(word for line in summary for word in WEIGHED if word in line)
         self.groups += sum(line.endswith(" more") for line in summary)
         self.unjudged.update(line.split(" ")[0] for line in summary if line.startswith(UNJUDGED))
-        if got != expected or status != int(findings > 0):
+        if got != expected or status != int(findings > 0 if fails is None else fails):
             self.keep(f"{sort}-{name}", data, words, expected, got, status)
 
     def keep(self, name, data, words, expected, got, status):
@@ -106,6 +123,17 @@ class Sweep:
             expected = model.audited(data, model.rules_of(words)[0])
             self.judge("drawn", number, data, words, expected)
 
+    def ruled(self, count):
+        """Drawn recordings, with drawn rules."""
+        path = self.folder / "rules.toml"
+        for number in range(count):
+            some = self.generator("ruled", number)
+            data, words = draws.drawn(some)
+            path.write_text(draws.Draws(some).bench())
+            words += ["--rules", str(path)]
+            audit = model.Audit(wire.records_of(data), model.rules_of(words)[0])
+            self.judge("ruled", number, data, words, audit.text(), audit.fails())
+
     def worlds(self, sort, count):
         """The recordings of so many worlds, each with a generator for what is done to it."""
         for number in range(0, count, WORLDS):
@@ -120,11 +148,13 @@ class Sweep:
             words = some.choice(([], ["--settle-ms", "1"]))
             messages = [header for record in records for _, header, _ in wire.messages_of(record.payload)[0]]
             self.calm_types.update(header.kind for header in messages)
-            expected = (f"audited {len(records)} datagrams, {len(messages)} messages, 0 findings\n"
-                        + model.unjudged_of(records))
+            audited = f"audited {len(records)} datagrams, {len(messages)} messages, 0 findings\n"
+            expected = audited + model.unjudged_of(records)
             self.judge("calm", number, wire.pcap(records, nanoseconds=True), words, expected)
-            twice = wire.pcap(runs.mirrored(some, records), nanoseconds=True)
-            self.judge("mirrored", number, twice, words + ["--dedup", "5"], expected)
+            both = runs.mirrored(some, records)
+            copies = f"left out {len(both) - len(records)} copies\n" if len(both) > len(records) else ""
+            twice = wire.pcap(both, nanoseconds=True)
+            self.judge("mirrored", number, twice, words + ["--dedup", "5"], audited + copies + model.unjudged_of(records))
             together = wire.pcap(runs.counted_together(records), nanoseconds=True)
             self.judge("counted together", number, together, words + ["--sessions", "sender"], expected)
             one_sided = wire.pcap(runs.one_sided(records), nanoseconds=True)
@@ -164,6 +194,7 @@ def missed(sweep, sorts):
     kinds = [kind for kind in model.KINDS if kind not in sweep.kinds]
     kinds += [words.strip() for words in UNJUDGED if words.split(" ")[0] not in sweep.unjudged]
     kinds += [] if sweep.groups else ["a group"]
+    kinds += [f"'{word}'" for word in WEIGHED if word not in sweep.weighed]
     return kinds + [f"type {kind:02x} in a calm world" for kind in types if kind not in sweep.calm_types]
 
 

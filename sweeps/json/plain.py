@@ -105,8 +105,27 @@ FOUND = {
 }
 
 
+# The kinds of packets that gave no datagram: the key of each, and its words.
+LEFT_OUT = {
+    "linktype": "of another link type",
+    "notipv4": "not IPv4",
+    "notudp": "not UDP",
+    "cut": "cut short",
+    "badlength": "with a bad UDP length",
+    "copies": "copies",
+    "incomplete": "fragments without the rest",
+    "differing": "fragments that differ",
+}
+
+
+def left_out(line):
+    """The plain line of packets that gave no datagram."""
+    return f"left out {', '.join(f'{line[key]} {words}' for key, words in LEFT_OUT.items() if int(line[key]))}"
+
+
 # What could not be judged.
 UNJUDGED = {
+    "left-out": left_out,
     "not-looked-at": lambda line: f"not looked at {line['datagrams']} datagrams",
     "no-offer": lambda line: "no Offer was seen",
     "one-way": lambda line: f"one way {line['from']} {line['to']} {line['messages']}",
@@ -122,10 +141,13 @@ def audited(line):
     words = line["kind"].replace("-", " ")
     if "count" in line:
         return f"{words} {line['count']}"
+    if "most" in line:
+        return f"{words} {absent(line['service'])}.{absent(line['method'])} at most {line['most']} came {line['came']}"
     if "more" in line:
         return f"{words} {absent(line['service'])}.{absent(line['method'])} {line['from']} {line['to']} {line['more']} more"
     head = f"{frame(line)}{time(line)} {line['datagram']} {line['from']} {line['to']}"
-    return f"{head} {words} {FOUND[line['kind']](line)}".rstrip()
+    allowed = "allowed " if "allowed" in line else ""
+    return f"{head} {allowed}{words} {FOUND[line['kind']](line)}".rstrip()
 
 
 def absent(text):

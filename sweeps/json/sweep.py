@@ -122,6 +122,8 @@ MORE = [
     "recording --endpoints --whole examples/cut.pcap",
     "audit --frames examples/audit.pcap",
     "audit --ports 30509 --group examples/taps/one.pcapng",
+    "audit --frames --rules examples/rules/known.toml examples/audit.pcap",
+    "audit --group --rules examples/rules/strict.toml examples/audit.pcap",
     "run --lines examples/runs/two.toml examples/runs/reboot.txt",
     "run --lines examples/runs/two.toml examples/runs/old_answer.txt",
 ]

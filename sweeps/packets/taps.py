@@ -93,9 +93,14 @@ class Case:
         packets, self.fault = self.packets()
         self.datagrams = list(model.datagrams(packets, self.options, self.counts))
 
-    def error(self):
+    def left_out(self):
+        """What is told of the packets that gave no datagram."""
         left = [f"{count} {words}" for words, count in self.counts.items() if count]
-        error = f"recording: left out {', '.join(left)}\n" if left else ""
+        return f"left out {', '.join(left)}" if left else ""
+
+    def error(self):
+        left = "" if self.words.startswith("audit") else self.left_out()
+        error = f"recording: {left}\n" if left else ""
         if self.fault:
             name, kind, place = self.fault
             error += f"recording: {f'{name}: ' if len(self.files) > 1 else ''}{kind} at {place}\n"
@@ -105,7 +110,7 @@ class Case:
         """The status and the two texts that are to come."""
         if self.words.startswith("audit"):
             records = [wire.Record(time, *map(wire_endpoint, ends), data) for _, time, *ends, data in self.datagrams]
-            text = audit_model.Audit(records, self.rules()).text()
+            text = audit_model.Audit(records, self.rules(), self.left_out()).text()
             is_told = not text.startswith("audited ")
         else:
             lines = list(self.lines(lines_of))

@@ -26,7 +26,8 @@ INTERFACES = 65536
 OTHERS = 4096
 ENDPOINTS = 65536
 LINE = "{} message 1111.0001 length 8 client 0000 session 0001 interface 01 type REQUEST_NO_RETURN code 00 payload -\n"
-AUDITED = "audited {0} datagrams, {0} messages, 0 findings\nno Offer was seen\n"
+AUDITED = "audited {0} datagrams, {0} messages, 0 findings\n{1}no Offer was seen\n"
+LEFT = "recording: left out "
 
 
 # ---- Packets
@@ -158,6 +159,12 @@ def left_out(count):
     return f"recording: left out {count} not IPv4\n"
 
 
+def split_told(told):
+    """What `audit` tells in its summary, and what on standard error, where `recording` tells so much there."""
+    at = told.index("\n") + 1 if told.startswith(LEFT) else 0
+    return told[len("recording: "):at], told[at:]
+
+
 class Case(NamedTuple):
     """What is tried: its name, kilobytes of memory, what is set, the recording, what is told on standard error, how
     often the datagram is reached, words of the call, and whether `audit` is tried too."""
@@ -241,16 +248,17 @@ def main():
         subprocess.run(["cc", "-shared", "-fPIC", "-O1", source, "-o", odd, "-ldl"], check=True)
         for case in {"edges": edges, "scale": scale}[part](odd):
             lines = "".join(LINE.format(number + 1) for number in range(case.reached))
-            calls = [(["recording"], lines)]
+            calls = [(["recording"], lines, case.told)]
             if case.is_audited:
-                calls.append((["audit", "--ports", "30509"], AUDITED.format(case.reached)))
-            for words, text in calls:
+                left, told = split_told(case.told)
+                calls.append((["audit", "--ports", "30509"], AUDITED.format(case.reached, left), told))
+            for words, text, told in calls:
                 status = 0 if case.reached else 1
                 came = run(program, [*words, *case.words, "-"], case.kilobytes, case.variables, case.pieces())
                 cases += 1
-                if came != (text, case.told, status):
+                if came != (text, told, status):
                     findings += 1
-                    print(f"{part}: {words[0]}, {case.name}: expected {(text, case.told, status)}, got {came}")
+                    print(f"{part}: {words[0]}, {case.name}: expected {(text, told, status)}, got {came}")
     if findings == 0:
         print(f"{part}: {cases} cases, no finding")
     return findings > 0

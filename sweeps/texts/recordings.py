@@ -63,32 +63,34 @@ FAULTS = (
 def told(counts):
     """What is told of so many packets of each kind."""
     parts = [f"{count} {words}" for count, (words, _) in zip(counts, KINDS) if count]
-    return f"recording: left out {', '.join(parts)}\n"
+    return f"left out {', '.join(parts)}\n"
 
 
 def recordings():
     """Words, a recording, the status, and the texts on standard output and on standard error."""
-    for datagrams, data, status, error in recorded():
+    for datagrams, data, status, left, fault in recorded():
+        error = (f"recording: {left}" if left else "") + fault
         yield ["recording"], data, status, SHOWN if datagrams else "", error
         yield ["recording", "--ports", "1"], data, status, "", error
         # No endpoint is learnt, so the audit looks at no datagram.
         passed = f"not looked at {datagrams} datagrams\n" if datagrams else ""
-        yield ["audit"], data, status, f"audited 0 datagrams, 0 messages, 0 findings\n{passed}no Offer was seen\n", error
+        text = f"audited 0 datagrams, 0 messages, 0 findings\n{left}{passed}no Offer was seen\n"
+        yield ["audit"], data, status, text, fault
 
 
 def recorded():
-    """How many datagrams, a recording, the status and the text on standard error."""
+    """How many datagrams, a recording, the status, what is told of packets, and what of a fault."""
     for index, (_, packets) in enumerate(KINDS):
         counts = [0] * len(KINDS)
         counts[index] = len(packets)
-        yield 0, recording(packets), 0, told(counts)
+        yield 0, recording(packets), 0, told(counts), ""
     everything = [it for times, (_, packets) in enumerate(KINDS) for it in packets[:1] * (times + 1)]
-    yield 1, recording([DATAGRAM, *reversed(everything)]), 0, told(range(1, len(KINDS) + 1))
-    yield 1, recording([DATAGRAM]), 0, ""
+    yield 1, recording([DATAGRAM, *reversed(everything)]), 0, told(range(1, len(KINDS) + 1)), ""
+    yield 1, recording([DATAGRAM]), 0, "", ""
     for fault, end in FAULTS:
         front = recording([DATAGRAM])
-        yield 1, front + end, 1, f"recording: {fault} at {len(front)}\n"
+        yield 1, front + end, 1, "", f"recording: {fault} at {len(front)}\n"
         front = recording([DATAGRAM, IPV6])
-        yield 1, front + end, 1, f"{told((0, 1))}recording: {fault} at {len(front)}\n"
+        yield 1, front + end, 1, told((0, 1)), f"recording: {fault} at {len(front)}\n"
     for data in (b"", bytes(24), section()[:11], struct.pack("<I", 0xA1B2C3D4) + bytes(19)):
-        yield 0, data, 1, "recording: NotRecording at 0\n"
+        yield 0, data, 1, "", "recording: NotRecording at 0\n"

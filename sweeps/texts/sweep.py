@@ -3,7 +3,7 @@ schedules, searches, shapes, payloads and recordings, and of words that come to 
 
     sweep.py PROGRAM
 
-Rows of texts that are not quite right, and what the program says of each: setups, types files, schedules, moves and
+Rows of texts that are not quite right, and what the program says of each: setups, types files, files of rules, schedules, moves and
 goals of searches, texts of shapes, payloads, recordings, and words that come to no command. A setup is run over a schedule without steps; most rows change
 one place of the worked setup, and those of `in_order` put fault after fault into a setup with every key (but `liar`,
 which a row adds), so that each is told before all that stand there already. A types file shows a request, whose value
@@ -22,13 +22,16 @@ from pathlib import Path
 from payloads import FAULTS, TAGGED_FAULTS, bad_shapes, deep_shapes
 from printed import fronts_of, printed_values
 from recordings import recordings
+from rules_files import rules
 from schedule_rows import schedules
 from searches import searches
 from setups import setups
 from types_files import types
 from words import HELP, USAGE, values
 
-SETUP = Path(__file__).resolve().parents[2] / "examples" / "runs" / "two.toml"
+EXAMPLES = Path(__file__).resolve().parents[2] / "examples"
+SETUP = EXAMPLES / "runs" / "two.toml"
+CALM = EXAMPLES / "one.pcap"
 
 # A request of the service 0, and the line that shows it.
 CAPTURE = "00000000 00000009 00000001 01010000 07\n"
@@ -69,6 +72,12 @@ def is_types(program, data, wanted):
         is_fault = value.startswith("1 value fault ")
         return (status, error) == (is_fault, "") and len(value) < len(shown) and value.startswith("1 value ")
     return (status, shown, error) == (1, "", f"types: {wanted}\n")
+
+
+def is_rules(program, text, wanted):
+    """A file of rules is refused, or taken by an audit of a recording without findings."""
+    said = said_of(program, text.encode(), ["audit", "--rules"], str(CALM))
+    return said[::2] == (0, "") if wanted == "ok" else said == (1, "", f"rules: {wanted}\n")
 
 
 def is_schedule(program, data, bad_line):
@@ -146,6 +155,7 @@ def is_recorded(program, words, data, status, shown, told):
 PARTS = {
     "setup": (is_setup, setups()),
     "types file": (is_types, types()),
+    "file of rules": (is_rules, rules()),
     "schedule": (is_schedule, schedules()),
     "search": (is_search, tuple(searches())),
     "shape": (is_bad_shape, bad_shapes()),

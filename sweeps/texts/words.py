@@ -22,6 +22,7 @@ HELP = (
     ("someipctl|help|audit", "      --answer-ms <N>       The milliseconds that an answer may take, 2000 without it\n"),
     ("someipctl|help|audit", "      --settle-ms <N>       The milliseconds at first in which no event without a "
      "subscription is told, 10000 without it\n"),
+    ("someipctl|help|audit", "      --rules <FILE>        Takes findings as the rules of this file say\n"),
     ("someipctl|help|audit", "      --group               Prints the first three findings of one kind, service, method, sender "
      "and receiver, and counts the others\n"),
     ("someipctl|help|audit", "  someipctl audit examples/audit.pcap\n"),

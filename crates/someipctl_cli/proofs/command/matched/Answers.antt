@@ -1,8 +1,7 @@
-use Rattle.std.proofs.Common.{◌≡◌, ◌∙◌, Option}
+use Rattle.std.proofs.Common.{◌≡◌, ◌∙◌}
 use Rattle.std.proofs.lemmas.Result.{IfOk-weaker}
 use Rattle.clap.specs.Words.{found_of, subcommand_rows_of}
 use Rattle.std.specs.Prelude.{option_map}
-use Rattle.someipctl_cli.specs.declared.command.Command.{Command}
 use Rattle.someipctl_cli.specs.CommandLine.{asked_by_command, asked_by_entered}
 use Rattle.someipctl_cli.proofs.CommandLineLemmas.{entered_asks, entered_is}
 use Rattle.someipctl_cli.proofs.command.matched.Goals as goal
