@@ -237,8 +237,9 @@ def named(*makers):
 
 
 # What holds, and what still goes over a whole book at each hit.
-HELD = named(event_receivers, reboots, reboots_of_offers, reboots_of_subscribes, calls, gaps, ways, offers)
+HELD = named(event_receivers, reboots, reboots_of_offers, reboots_of_subscribes, gaps, ways, offers)
 BOOKS = HELD | named(
+    calls,
     event_changes, event_changes_at_once, event_withdrawals, reboots_of_clients, reboots_of_servers, reboots_of_senders,
     reboots_of_receivers, events_to_subscriptions, events_to_nobody, subscribes_after_told,
     withdrawals_of_subscriptions, stops_of_subscriptions, expiring)
