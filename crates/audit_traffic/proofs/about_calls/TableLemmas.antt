@@ -1,15 +1,16 @@
 -- The calls of two tables.
-use Rattle.std.proofs.Common.{◌≡◌, ◌≢◌, ℕ, ◌+◌, ◌<◌, ◌≤◌, nat_lt, Bool, true, false, cond, List, [], ◌∷◌, ◌++◌, map, length, Option, None, Some, refl, sym, ap, subst, ◌∙◌, ◌⊎◌, inl, inr, arith}
+use Rattle.std.proofs.Common.{◌≡◌, ◌≢◌, ℕ, ◌+◌, ◌-◌, ◌<◌, ◌≤◌, nat_lt, Bool, true, false, cond, List, [], ◌∷◌, ◌++◌, map, length, Option, None, Some, refl, sym, ap, subst, ◌∙◌, ◌⊎◌, inl, inr, arith}
 use Rattle.std.specs.Option.{is_none, is_some, option_and_then, option_map}
-use Rattle.std.specs.Ordering.{eq_by_cmp}
-use Rattle.std.specs.FinMap.{FinMap, empty, entries, find, get, insert, len, remove, get-empty, get-entries, get-from_entries, get-insert, get-remove, len-entries, same_map}
-use Rattle.std.proofs.lemmas.Bool.{and_from, and_parts, lt-ltb, ltb-true}
+use Rattle.std.specs.Ordering.{eq_by_cmp, is_le}
+use Rattle.std.specs.FinMap.{FinMap, empty, entries, find, get, insert, len, remove, empty_of_len, len-remove, get-empty, get-entries, get-from_entries, get-insert, get-remove, len-entries, same_map}
+use Rattle.std.proofs.lemmas.Bool.{and_from, and_parts, lt-ltb, le-ltb}
 use Rattle.someip_tables.specs.Retained.{kept_if, retain}
 use Rattle.someip_tables.proofs.MapLaws.{retain_all}
 use Rattle.someip_tables.specs.Distinct.{are_distinct}
 use Rattle.someip_tables.proofs.Entries.{entries_distinct, get-retain, len-from_entries, none_found, own_test, same_by_test}
+use Rattle.someip_tables.proofs.about_hashed.FirstDues.{not_before}
 use Rattle.someip_tables.specs.declared.hashed.due.Due.{Due}
-use Rattle.someip_tables.specs.hashed.Dues.{IsFirstDue, WantsMemory}
+use Rattle.someip_tables.specs.hashed.Dues.{IsFirstDue, WantsMemory, due_cmp}
 use Rattle.audit_traffic.specs.declared.calls.call.AuditedCall.{AuditedCall}
 use Rattle.audit_traffic.specs.declared.calls.call_table.Asked.{Asked}
 use Rattle.audit_traffic.specs.declared.calls.call_table.Asked.TheVariants.{Waiting, Told}
@@ -18,7 +19,7 @@ use Rattle.audit_traffic.specs.declared.calls.known.Known.{Known}
 use Rattle.audit_traffic.specs.declared.calls.known.Known.TheVariants as known
 use Rattle.audit_traffic.specs.calls.AuditedCalls.{call_cmp}
 use Rattle.audit_traffic.specs.calls.CallOrder.{calls_total, exact_calls}
-use Rattle.audit_traffic.specs.calls.CallTables.{AreApart, AreKnownUntil, all_calls, answered_waits, asked_waits, is_open, known_answered, known_asked, known_by_both, open_of, unless_answered, waiting_of}
+use Rattle.audit_traffic.specs.calls.CallTables.{AreApart, all_calls, answered_waits, asked_waits, is_open, is_still_known, known_answered, known_asked, known_by_both, open_of, unless_answered, waiting_of}
 use Rattle.audit_traffic.specs.calls.KnownCalls.{is_known_at, waits_of}
 use Rattle.audit_traffic.specs.calls.Overdue.{still_known}
 
@@ -208,33 +209,62 @@ module _ (asked : FinMap call_cmp Asked) (answered : FinMap call_cmp Answered) (
       at q true tie is = apart q (ap (λ c. is_some (get asked c)) (same_by_test exact_calls q k tie) ∙ there)
       at q false tie is = apart q is
 
--- ---- until when those that were answered are known
-
-module _ (answered answered' : FinMap call_cmp Answered) (k : AuditedCall) (moment : ℕ) (until : AreKnownUntil moment answered) where
-  pub until_put : (v : Answered) (earlier : ℕ) → earlier ≤ moment → earlier ≤ v.0 → answered' ≡ insert answered k v → AreKnownUntil earlier answered'
-  until_put v earlier first second put = λ q what is. at q what (eq_by_cmp call_cmp q k) (sym (get-insert calls_total answered k v q) ∙ ap (λ m. get m q) (sym put) ∙ is)
-    where
-      at : (q : AuditedCall) (what : Answered) (b : Bool) → cond b (Some v) (get answered q) ≡ Some what → earlier ≤ what.0
-      at q what true is = let same : v ≡ what = cc in subst (λ (a : Answered). earlier ≤ a.0) same second
-      at q what false is = let le : moment ≤ what.0 = until q what is in omega (arith, first, le)
-
-  pub until_removed : answered' ≡ remove answered k → AreKnownUntil moment answered'
-  until_removed left = λ q what is. at q what (eq_by_cmp call_cmp q k) (sym (get-remove calls_total answered k q) ∙ ap (λ m. get m q) (sym left) ∙ is)
-    where
-      at : (q : AuditedCall) (what : Answered) (b : Bool) → cond b None (get answered q) ≡ Some what → moment ≤ what.0
-      at q what true is = cc
-      at q what false is = until q what is
-
-pub until_none : (answered : FinMap call_cmp Answered) → AreKnownUntil 0 answered
-until_none answered = λ q what is. omega arith
-
 -- ---- those of which nothing is known any more
 
+-- one that is taken out was not to stay
+pub less_gone : (now : ℕ) (m n : FinMap call_cmp Answered) (k : AuditedCall) → n ≡ remove m k → kept_if (is_still_known now) (get m k) ≡ None
+    → retain n (λ _ a. is_still_known now a) ≡ retain m (λ _ a. is_still_known now a)
+less_gone now m n k left gone =
+    same_map calls_total exact_calls _ _ (λ q.
+    get-retain calls_total exact_calls n (λ _ a. is_still_known now a) q
+    ∙ ap (λ l. kept_if (is_still_known now) (get l q)) left ∙ ap (kept_if (is_still_known now)) (get-remove calls_total m k q)
+    ∙ at q (eq_by_cmp call_cmp q k) refl
+    ∙ sym (get-retain calls_total exact_calls m (λ _ a. is_still_known now a) q))
+  where
+    at : (q : AuditedCall) (b : Bool) → eq_by_cmp call_cmp q k ≡ b → kept_if (is_still_known now) (cond b None (get m q)) ≡ kept_if (is_still_known now) (get m q)
+    at q true is = sym (ap (λ x. kept_if (is_still_known now) (get m x)) (same_by_test exact_calls q k is) ∙ gone)
+    at q false is = refl
+
+-- and there is one less
+pub fewer : (m n : FinMap call_cmp Answered) (k : AuditedCall) → n ≡ remove m k → is_some (get m k) ≡ true → len n < len m
+fewer m n k left there =
+    let less : len n ≡ len m - 1 = ap len left ∙ len-remove calls_total m k ∙ rw there refl in
+    let some : len m ≢ 0 = λ zero. let empty_is : get m k ≡ None = ap (λ l. get l k) (empty_of_len m zero) ∙ get-empty call_cmp k in let is : is_some (get m k) ≡ true = there in cc in
+    omega (arith, less, some)
+
+-- where none is to go, all stay
+pub all_stay : (now : ℕ) (m : FinMap call_cmp Answered) → ((k : AuditedCall) (what : Answered) → get m k ≡ Some what → is_still_known now what ≡ true)
+    → m ≡ retain m (λ _ a. is_still_known now a)
+all_stay now m none = sym (retain_all calls_total exact_calls m (λ _ a. is_still_known now a) none)
+
+-- the one that waits for the first moment is to go, if it is past
+pub first_gone : (now : ℕ) (m : FinMap call_cmp Answered) (due : Due AuditedCall) → IsFirstDue answered_waits m (Some due) → due.at ≤ now
+    → (is_some (get m due.key) ≡ true) × (kept_if (is_still_known now) (get m due.key) ≡ None)
+first_gone now m due first past = cases (get m due.key) first.0
+  where
+    not_still : (a : Answered) → Some a.0 ≡ Some due.at → cond (nat_lt now a.0) (Some a) None ≡ None
+    not_still a is =
+        let same : a.0 ≡ due.at = cc in
+        let no : nat_lt now a.0 ≡ false = le-ltb _ _ (omega (arith, same, past)) in
+        rw no refl
+
+    cases : (v : Option Answered) → option_and_then answered_waits v ≡ Some due.at → (is_some v ≡ true) × (kept_if (is_still_known now) v ≡ None)
+    cases None is = absurd (cc)
+    cases (Some a) is = (refl, not_still a is)
+
+-- and where it is not past, none is to go
+pub none_gone : (now : ℕ) (m : FinMap call_cmp Answered) (first : Due AuditedCall) → IsFirstDue answered_waits m (Some first) → now < first.at
+    → (k : AuditedCall) (what : Answered) → get m k ≡ Some what → is_still_known now what ≡ true
+none_gone now m first least later k what is =
+    let waits : option_and_then answered_waits (get m k) ≡ Some what.0 = rw is refl in
+    let le : is_le (due_cmp call_cmp first (record { at = what.0; key = k })) ≡ true = least.1 (record { at = what.0; key = k }) waits in
+    let before : first.at ≤ what.0 = not_before call_cmp first (record { at = what.0; key = k }) le in
+    lt-ltb now what.0 (omega (arith, before, later))
+
 module _ (asked : FinMap call_cmp Asked) (answered : FinMap call_cmp Answered) (now : ℕ) where
-  -- all are let go
-  module _ (answered' : FinMap call_cmp Answered) (left : answered' ≡ retain answered (λ _ a. nat_lt now a.0)) where
-    get_left : (q : AuditedCall) → get answered' q ≡ kept_if (λ a. nat_lt now a.0) (get answered q)
-    get_left q = ap (λ m. get m q) left ∙ get-retain calls_total exact_calls answered (λ _ a. nat_lt now a.0) q
+  module _ (answered' : FinMap call_cmp Answered) (left : answered' ≡ retain answered (λ _ a. is_still_known now a)) where
+    get_left : (q : AuditedCall) → get answered' q ≡ kept_if (is_still_known now) (get answered q)
+    get_left q = ap (λ m. get m q) left ∙ get-retain calls_total exact_calls answered (λ _ a. is_still_known now a) q
 
     pub let_go : all_calls asked answered' ≡ still_known now (all_calls asked answered)
     let_go =
@@ -242,7 +272,7 @@ module _ (asked : FinMap call_cmp Asked) (answered : FinMap call_cmp Answered) (
         get-all asked answered' q ∙ ap (known_by_both (get asked q)) (get_left q) ∙ at (get asked q) (get answered q) ∙ ap (kept_if (is_known_at now)) (sym (get-all asked answered q))
         ∙ sym (get-retain calls_total exact_calls (all_calls asked answered) (λ _ what. is_known_at now what) q))
       where
-        at : (u : Option Asked) (w : Option Answered) → known_by_both u (kept_if (λ a. nat_lt now a.0) w) ≡ kept_if (is_known_at now) (known_by_both u w)
+        at : (u : Option Asked) (w : Option Answered) → known_by_both u (kept_if (is_still_known now) w) ≡ kept_if (is_known_at now) (known_by_both u w)
         at (Some (Waiting call)) w = refl
         at (Some (Told since)) w = refl
         at None None = refl
@@ -253,37 +283,7 @@ module _ (asked : FinMap call_cmp Asked) (answered : FinMap call_cmp Answered) (
             cases false = refl
 
     pub apart_let_go : AreApart asked answered → AreApart asked answered'
-    apart_let_go apart = λ q is. get_left q ∙ ap (kept_if (λ a. nat_lt now a.0)) (apart q is)
-
-    pub until_let_go : (moment : ℕ) → moment ≤ now + 1 → AreKnownUntil moment answered'
-    until_let_go moment le = λ q what is. let later = at (get answered q) what (sym (get_left q) ∙ is) in omega (arith, le, later)
-      where
-        at : (w : Option Answered) (what : Answered) → kept_if (λ a. nat_lt now a.0) w ≡ Some what → now + 1 ≤ what.0
-        at None what is = cc
-        at (Some w) what is = cases (nat_lt now w.0) refl is
-          where
-            cases : (b : Bool) → nat_lt now w.0 ≡ b → cond b (Some w) None ≡ Some what → now + 1 ≤ what.0
-            cases true lt is =
-                let same : w ≡ what = cc in
-                let below : now < w.0 = ltb-true now w.0 lt in
-                let at_least : now + 1 ≤ w.0 = omega (arith, below) in
-                subst (λ (a : Answered). now + 1 ≤ a.0) same at_least
-            cases false ge is = cc
-
-  -- or there is none
-  pub none_to_let_go : (moment : ℕ) → AreKnownUntil moment answered → now < moment → all_calls asked answered ≡ still_known now (all_calls asked answered)
-  none_to_let_go moment until early =
-      sym (retain_all calls_total exact_calls (all_calls asked answered) (λ _ what. is_known_at now what) (λ q what is.
-      at (get asked q) (get answered q) what (until q) (sym (get-all asked answered q) ∙ is)))
-    where
-      at : (u : Option Asked) (w : Option Answered) (what : Known) → ((a : Answered) → w ≡ Some a → moment ≤ a.0) → known_by_both u w ≡ Some what → is_known_at now what ≡ true
-      at (Some (Waiting call)) w what late is = let same : known.Open call ≡ what = cc in ap (is_known_at now) (sym same)
-      at (Some (Told since)) w what late is = let same : known.Overdue since ≡ what = cc in ap (is_known_at now) (sym same)
-      at None None what late is = cc
-      at None (Some w) what late is =
-          let same : known.Answered w.0 ≡ what = cc in
-          let le : moment ≤ w.0 = late w refl in
-          ap (is_known_at now) (sym same) ∙ lt-ltb now w.0 (omega (arith, le, early))
+    apart_let_go apart = λ q is. get_left q ∙ ap (kept_if (is_still_known now)) (apart q is)
 
 -- ---- which moment comes first
 
@@ -326,7 +326,7 @@ wants_answered : (u : Option Asked) (w : Option Answered) (v : Answered) → (is
 wants_answered (Some (Waiting call)) w v apart wants is = cc
 wants_answered (Some (Told since)) w v apart wants is = cc
 wants_answered None None v apart wants is = cc
-wants_answered None (Some w) v apart wants is = wants.0 refl
+wants_answered None (Some w) v apart wants is = let same : w.0 ≡ v.0 = cc in wants.0 (ap Some same)
 
 module _ (asked : FinMap call_cmp Asked) (answered : FinMap call_cmp Answered) (k : AuditedCall) where
   pub asked_anew : (v : Asked) → WantsMemory asked_waits (get asked k) (asked_waits v) → get (all_calls asked answered) k ≢ Some (known_asked v)

@@ -1,5 +1,5 @@
 -- The calls that are known, in two tables: those without an answer, and those that were answered.
-use Rattle.std.specs.Prelude.{◌≡◌, ◌≤◌, ℕ, Bool, true, false, ◌++◌, map, Option, None, Some, is_some}
+use Rattle.std.specs.Prelude.{◌≡◌, ℕ, nat_lt, Bool, true, false, ◌++◌, map, Option, None, Some, is_some}
 use Rattle.std.specs.Option.{option_map}
 use Rattle.std.specs.FinMap.{FinMap, entries, get}
 use Rattle.someip_tables.specs.Tables.{map_of}
@@ -26,13 +26,13 @@ abbrev pub waiting_of : Asked → Option OpenCall
 waiting_of (Waiting call) = Some call
 waiting_of (Told since) = None
 
--- the moments that they wait for: one that was answered waits for none
+-- the moments that they wait for: one that was answered, for that from which nothing is known of it any more
 abbrev pub asked_waits : Asked → Option ℕ
 asked_waits (Waiting call) = Some call.until
 asked_waits (Told since) = None
 
 abbrev pub answered_waits : Answered → Option ℕ
-answered_waits answered = None
+answered_waits answered = Some answered.0
 
 -- what is known of a call by both tables
 abbrev pub known_by_both : Option Asked → Option Answered → Option Known
@@ -62,6 +62,6 @@ abbrev pub unless_answered : Option Known → Option Known
 unless_answered (Some (known.Answered until)) = None
 unless_answered what = what
 
--- each call that was answered is known until this moment, or longer
-abbrev pub AreKnownUntil : ℕ → FinMap call_cmp Answered → Type 0
-AreKnownUntil moment answered = (call : AuditedCall) (what : Answered) → get answered call ≡ Some what → moment ≤ what.0
+-- something is still known of a call that was answered
+abbrev pub is_still_known : ℕ → Answered → Bool
+is_still_known now answered = nat_lt now answered.0

@@ -1,10 +1,15 @@
 //! The calls that are known, in two tables: those that have no answer, and those that were answered.
-ghost use Rattle.std.specs.Prelude.{◌≡◌, ◌≢◌, ◌≤◌, true, Some, OnErr, OnOk, IfNone, IfSome};
+ghost use Rattle.std.specs.Prelude.{◌≡◌, ◌≢◌, ◌≤◌, true, Some, None, is_some, OnErr, OnOk, IfNone, IfSome};
 ghost use Rattle.std.specs.FinMap as finite;
+ghost use Rattle.someip_tables.specs.Retained.{kept_if, retain};
+ghost use Rattle.someip_tables.specs.Tables.{map_of};
 ghost use Rattle.someip_tables.specs.hashed.Dues.{IsFirstDue};
+ghost use Rattle.audit_traffic.specs.calls.AuditedCalls.{call_cmp};
 ghost use Rattle.audit_traffic.specs.calls.KnownCalls.{waits_of};
 ghost use Rattle.audit_traffic.specs.calls.Overdue.{still_known};
-ghost use Rattle.audit_traffic.specs.calls.CallTables.{is_open, known_answered, known_asked, open_of, unless_answered, waiting_of};
+ghost use Rattle.audit_traffic.specs.calls.CallTables.{is_open, is_still_known, known_answered, known_asked, open_of, unless_answered, waiting_of};
+ghost use Rattle.audit_traffic.specs.declared.calls.call.AuditedCall.{AuditedCall};
+ghost use Rattle.audit_traffic.specs.declared.calls.call_table.Answered.{Answered};
 ghost use Rattle.audit_traffic.specs.declared.calls.known.Known.TheVariants as known;
 
 use crate::calls::call::AuditedCall;
@@ -68,18 +73,17 @@ impl Waits for Answered {
     ghost moment = { answered_waits };
 
     fn waits_for(&self) -> Option<u64> {
-        None
+        Some(self.0)
     }
 }
 
 /// The calls that are known. Those that were answered stand apart: they are many, since each is known for
-/// as long as an answer may take, and little is kept of them, while few wait for an answer. They wait for
-/// no moment, and are let go, all at once, where room is wanted. Before the moment `stale_from` none is.
+/// as long as an answer may take, and little is kept of them, while few wait for an answer. They stand in the
+/// order in which they are let go, where room is wanted.
 #[derive(Drop)]
 pub(crate) struct CallTable {
     asked: DueTable<AuditedCall, Asked>,
     answered: DueTable<AuditedCall, Answered>,
-    stale_from: u64,
 }
 
 impl Model for CallTable {
@@ -88,7 +92,7 @@ impl Model for CallTable {
     ghost use Rattle.audit_traffic.specs.calls.AuditedCalls.{call_cmp};
     ghost use Rattle.audit_traffic.specs.calls.CallBooks.{Calls};
     ghost use Rattle.audit_traffic.specs.calls.CallCodes.{coded_call, coded_known};
-    ghost use Rattle.audit_traffic.specs.calls.CallTables.{AreApart, AreKnownUntil, all_calls};
+    ghost use Rattle.audit_traffic.specs.calls.CallTables.{AreApart, all_calls};
 
     ghost Value = { Calls };
 
@@ -96,8 +100,7 @@ impl Model for CallTable {
 
     ghost view = { λ t. all_calls (map_of call_cmp t.asked) (map_of call_cmp t.answered) };
 
-    ghost invariant = { λ t. AreApart (map_of call_cmp t.asked) (map_of call_cmp t.answered)
-        × AreKnownUntil t.stale_from (map_of call_cmp t.answered) };
+    ghost invariant = { λ t. AreApart (map_of call_cmp t.asked) (map_of call_cmp t.answered) };
 }
 
 impl CallTable {
@@ -108,7 +111,6 @@ impl CallTable {
         CallTable {
             asked: DueTable::new(alloc),
             answered: DueTable::new(alloc),
-            stale_from: 0,
         }
     }
 
@@ -186,9 +188,6 @@ impl CallTable {
     {
         self.answered.insert(call, answered)?;
         self.asked.remove(&call);
-        if answered.0 < self.stale_from {
-            self.stale_from = answered.0;
-        }
         Ok(())
     }
 
@@ -200,16 +199,12 @@ impl CallTable {
         let _ = self.asked.insert(call, Asked::Told(since));
     }
 
-    /// Lets those go of which nothing is known any more at a moment. It takes no memory, and goes over all
-    /// that were answered, where any may have to go.
+    /// Lets those go of which nothing is known any more at a moment. It looks at these alone, and takes no
+    /// memory.
     pub(crate) fn let_go(&mut self, now: u64)
         ensures { self.new ≡ still_known now self.old }
     {
-        if now < self.stale_from {
-            return;
-        }
-        self.answered.retain(|_, answered| now < answered.0);
-        self.stale_from = now.saturating_add(1);
+        let_all_go(&mut self.answered, now);
     }
 
     /// The call whose moment comes first, by moment and then by call, if one waits for any.
@@ -218,4 +213,26 @@ impl CallTable {
     {
         self.asked.first_due()
     }
+}
+
+/// Lets those that were answered go of which nothing is known any more.
+fn let_all_go(answered: &mut DueTable<AuditedCall, Answered>, now: u64)
+    ensures { map_of call_cmp answered.new
+        ≡ retain (map_of call_cmp answered.old) (λ _ what. is_still_known now what) }
+{
+    while let Some(call) = first_to_go(answered, now) {
+        answered.remove(&call);
+    }
+}
+
+/// The call that was answered of which nothing is known any more for the longest time, if there is one.
+fn first_to_go(answered: &DueTable<AuditedCall, Answered>, now: u64) -> Option<AuditedCall>
+    ensures there { IfSome result (λ call. is_some (finite.get (map_of call_cmp answered.now) call) ≡ true) }
+    ensures gone { IfSome result (λ call.
+        kept_if (is_still_known now) (finite.get (map_of call_cmp answered.now) call) ≡ None) }
+    ensures none { IfNone result ((call : AuditedCall) (what : Answered)
+        → finite.get (map_of call_cmp answered.now) call ≡ Some what → is_still_known now what ≡ true) }
+{
+    let due = answered.first_due()?;
+    if due.at <= now { Some(due.key) } else { None }
 }

@@ -5,11 +5,10 @@
 //! datagrams of calls took 0.67 s with hashes, and 0.94 s with the keys in an ordered map (November 2026,
 //! on one day). The seed of the hashes is that of std, and fixed, so a
 //! recording can be made whose keys stand in one place, up to 65,536 of them; each look then goes over all
-//! of these. Memory stays within its limit, and what is told the same. Calls that were answered wait for no
-//! moment: they stand apart, and those of which nothing is known any more go all at once, where there is no
-//! room for as many calls as a datagram may bring. With a moment for each, 1.2 million calls and answers
-//! took a quarter more instructions. The price: where more calls come than are kept, above some 30,000 a
-//! second, each millisecond goes over all of those that were answered.
+//! of these. Memory stays within its limit, and what is told the same. Calls that were answered stand apart,
+//! since they are many, and each waits for the moment up to which something is known of it. That takes a
+//! quarter more instructions than with no moment, for 1.2 million calls and answers; but where more calls come
+//! than are kept, none is gone over that stays.
 ghost use Rattle.std.specs.Prelude.{◌≡◌, IfNone, IfSome, OnOk, OnErr, Bool};
 ghost use Rattle.std.specs.FinMap as finite;
 ghost use Rattle.someip_tables.specs.Retained.{retain};

@@ -1,35 +1,21 @@
-use Rattle.std.proofs.Common.{ap, ◌∙◌, arith}
+use Rattle.std.proofs.Common.{ap, ◌∙◌}
 use Rattle.std.specs.FinMap.{get, insert}
 use Rattle.someip_tables.proofs.Outcomes.{on_err}
 use Rattle.someip_tables.specs.Tables.{map_of}
 use Rattle.audit_traffic.specs.calls.AuditedCalls.{call_cmp}
 use Rattle.audit_traffic.specs.calls.CallTables.{known_answered}
-use Rattle.audit_traffic.proofs.about_calls.TableLemmas.{answered_anew, answered_put, apart_answered, until_put}
+use Rattle.audit_traffic.proofs.about_calls.TableLemmas.{answered_anew, answered_put, apart_answered}
 use Rattle.audit_traffic.proofs.calls.call_table.CallTable.answer.Goals as goal
 
 pub returns-in_err-insert-clause-grows : goal.returns-in_err-insert-clause-grows
 returns-in_err-insert-clause-grows c =
     on_err c.from_residual.result
-    (λ is. answered_anew (map_of call_cmp c.self.inside.asked) (map_of call_cmp c.self.inside.answered) c.args.call c.args.answered c.self.invariant.0 c.in_err-insert.ensures.grows (ap (λ m. get m c.args.call) c.self.view_is ∙ is))
+    (λ is. answered_anew (map_of call_cmp c.self.inside.asked) (map_of call_cmp c.self.inside.answered) c.args.call c.args.answered c.self.invariant c.in_err-insert.ensures.grows (ap (λ m. get m c.args.call) c.self.view_is ∙ is))
 
-pub invariant_of-self-then-answered-self : goal.invariant_of-self-then-answered-self
-invariant_of-self-then-answered-self c = (
-  apart_answered (map_of call_cmp c.self.inside.asked) (map_of call_cmp c.remove.new.self) (map_of call_cmp c.self.inside.answered) (map_of call_cmp c.insert.new.self) c.args.call c.args.answered c.self.invariant.0 c.in_ok-insert.ensures.ok c.remove.ensures,
-  until_put (map_of call_cmp c.self.inside.answered) (map_of call_cmp c.insert.new.self) c.args.call c.self.inside.stale_from c.self.invariant.1 c.args.answered c.args.answered.0 (let lt = c.if-answered-self.true in omega (arith, lt)) (omega arith) c.in_ok-insert.ensures.ok,
-)
+pub invariant_of-self-2 : goal.invariant_of-self-2
+invariant_of-self-2 c = apart_answered (map_of call_cmp c.self.inside.asked) (map_of call_cmp c.remove.new.self) (map_of call_cmp c.self.inside.answered) (map_of call_cmp c.insert.new.self) c.args.call c.args.answered c.self.invariant c.in_ok-insert.ensures.ok c.remove.ensures
 
-pub invariant_of-self-else-answered-self : goal.invariant_of-self-else-answered-self
-invariant_of-self-else-answered-self c = (
-  apart_answered (map_of call_cmp c.self.inside.asked) (map_of call_cmp c.remove.new.self) (map_of call_cmp c.self.inside.answered) (map_of call_cmp c.insert.new.self) c.args.call c.args.answered c.self.invariant.0 c.in_ok-insert.ensures.ok c.remove.ensures,
-  until_put (map_of call_cmp c.self.inside.answered) (map_of call_cmp c.insert.new.self) c.args.call c.self.inside.stale_from c.self.invariant.1 c.args.answered c.self.inside.stale_from (omega arith) c.if-answered-self.false c.in_ok-insert.ensures.ok,
-)
-
-pub returns-then-answered-self-clause-ok : goal.returns-then-answered-self-clause-ok
-returns-then-answered-self-clause-ok c =
-    answered_put (map_of call_cmp c.self.inside.asked) (map_of call_cmp c.remove.new.self) (map_of call_cmp c.self.inside.answered) (map_of call_cmp c.insert.new.self) c.args.call c.args.answered c.in_ok-insert.ensures.ok c.remove.ensures
-    ∙ ap (λ m. insert m c.args.call (known_answered c.args.answered)) c.self.view_is
-
-pub returns-else-answered-self-clause-ok : goal.returns-else-answered-self-clause-ok
-returns-else-answered-self-clause-ok c =
+pub returns-clause-ok : goal.returns-clause-ok
+returns-clause-ok c =
     answered_put (map_of call_cmp c.self.inside.asked) (map_of call_cmp c.remove.new.self) (map_of call_cmp c.self.inside.answered) (map_of call_cmp c.insert.new.self) c.args.call c.args.answered c.in_ok-insert.ensures.ok c.remove.ensures
     ∙ ap (λ m. insert m c.args.call (known_answered c.args.answered)) c.self.view_is

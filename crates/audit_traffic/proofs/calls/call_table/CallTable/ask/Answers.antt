@@ -4,7 +4,7 @@ use Rattle.someip_tables.proofs.Outcomes.{on_err}
 use Rattle.someip_tables.specs.Tables.{map_of}
 use Rattle.audit_traffic.specs.calls.AuditedCalls.{call_cmp}
 use Rattle.audit_traffic.specs.calls.CallTables.{known_asked}
-use Rattle.audit_traffic.proofs.about_calls.TableLemmas.{apart_asked, asked_anew, asked_put, until_removed}
+use Rattle.audit_traffic.proofs.about_calls.TableLemmas.{apart_asked, asked_anew, asked_put}
 use Rattle.audit_traffic.proofs.calls.call_table.CallTable.ask.Goals as goal
 
 pub returns-in_err-insert-clause-grows : goal.returns-in_err-insert-clause-grows
@@ -12,10 +12,7 @@ returns-in_err-insert-clause-grows c =
     on_err c.from_residual.result (λ is. asked_anew (map_of call_cmp c.self.inside.asked) (map_of call_cmp c.self.inside.answered) c.args.call c.args.asked c.in_err-insert.ensures.grows (ap (λ m. get m c.args.call) c.self.view_is ∙ is))
 
 pub invariant_of-self-2 : goal.invariant_of-self-2
-invariant_of-self-2 c = (
-  apart_asked (map_of call_cmp c.self.inside.asked) (map_of call_cmp c.insert.new.self) (map_of call_cmp c.self.inside.answered) (map_of call_cmp c.remove.new.self) c.args.call c.args.asked c.self.invariant.0 c.in_ok-insert.ensures.ok c.remove.ensures,
-  until_removed (map_of call_cmp c.self.inside.answered) (map_of call_cmp c.remove.new.self) c.args.call c.self.inside.stale_from c.self.invariant.1 c.remove.ensures,
-)
+invariant_of-self-2 c = apart_asked (map_of call_cmp c.self.inside.asked) (map_of call_cmp c.insert.new.self) (map_of call_cmp c.self.inside.answered) (map_of call_cmp c.remove.new.self) c.args.call c.args.asked c.self.invariant c.in_ok-insert.ensures.ok c.remove.ensures
 
 pub returns-clause-ok : goal.returns-clause-ok
 returns-clause-ok c =

@@ -12,11 +12,9 @@ use Rattle.audit_traffic.proofs.calls.call_table.CallTable.tell.Goals as goal
 
 pub invariant_of-self : goal.invariant_of-self
 invariant_of-self c =
-    let there : is_some (get (map_of call_cmp c.self.inside.asked) c.args.call) ≡ true = told_is_asked (map_of call_cmp c.self.inside.asked) (map_of call_cmp c.self.inside.answered) c.args.call (ap (λ m. is_open (get m c.args.call)) c.self.view_is ∙ c.requires) in (
-      apart_told (map_of call_cmp c.self.inside.asked) (map_of call_cmp c.self.inside.answered) c.args.call (map_of call_cmp c.insert.new.self) (Told c.args.since) c.self.invariant.0 there
-          (where_no_err c.insert.result (told_wants_none _ there) c.insert.ensures.grows c.insert.ensures.ok),
-      c.self.invariant.1,
-    )
+    let there : is_some (get (map_of call_cmp c.self.inside.asked) c.args.call) ≡ true = told_is_asked (map_of call_cmp c.self.inside.asked) (map_of call_cmp c.self.inside.answered) c.args.call (ap (λ m. is_open (get m c.args.call)) c.self.view_is ∙ c.requires) in
+    apart_told (map_of call_cmp c.self.inside.asked) (map_of call_cmp c.self.inside.answered) c.args.call (map_of call_cmp c.insert.new.self) (Told c.args.since) c.self.invariant there
+    (where_no_err c.insert.result (told_wants_none _ there) c.insert.ensures.grows c.insert.ensures.ok)
 
 pub returns : goal.returns
 returns c =
