@@ -1,2 +1,3 @@
 pub mod SlotLemmas
 pub mod OwnerLemmas
+pub mod PlaceLemmas

@@ -10,3 +10,5 @@ pub mod SawLemmas
 pub mod SinceLemmas
 pub mod ReasonLemmas
 pub mod CountLemmas
+pub mod OneFlowLemmas
+pub mod SteadyLemmas

@@ -7,3 +7,5 @@ pub mod SourceEquality
 pub mod EventHistories
 pub mod EventExamples
 pub mod EventReasons
+pub mod FlowPlaces
+pub mod PlaceOrder

@@ -13,14 +13,19 @@
 mod event_book;
 mod finding;
 mod flow;
+mod flow_place;
 mod flow_table;
+mod found_flows;
 mod groups;
 mod last_event;
 pub mod laws;
 mod notification;
+mod offering;
 mod receiver;
 mod receivers;
+mod route;
 mod source;
+mod steady;
 mod steps;
 
 pub use event_book::EventBook;

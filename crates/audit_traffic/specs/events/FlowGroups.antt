@@ -70,6 +70,10 @@ once_withdrawn server service flow last = if is_of_service server service flow t
 abbrev pub disturbed_at : Receiver → Receiver
 disturbed_at receiver = record receiver { last = disturbed receiver.last }
 
+-- the same where it is this endpoint
+abbrev pub disturbed_to : SocketAddrV4 → Receiver → Receiver
+disturbed_to endpoint receiver = if eq_by_cmp endpoint_cmp receiver.endpoint endpoint then disturbed_at receiver else receiver
+
 -- the last event of a flow once one came of the same event of the same sender
 abbrev pub once_came : Notification → EventFlow → LastEvent → LastEvent
 once_came event flow last =

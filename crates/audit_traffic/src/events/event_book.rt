@@ -6,7 +6,7 @@ ghost use Rattle.audit_traffic.specs.events.EventTables.{has_room, needs_memory,
 
 use crate::events::finding::Finding;
 use crate::events::flow::EventFlow;
-use crate::events::flow_table::FlowTable;
+use crate::events::found_flows::FoundFlows;
 use crate::events::notification::Notification;
 use crate::events::steps::{judge, renewed};
 use someip_tables::hashed::Room;
@@ -21,7 +21,7 @@ const MOST_RECEIVERS: usize = 256;
 #[derive(Drop)]
 pub struct EventBook {
     room: Room,
-    flows: FlowTable,
+    flows: FoundFlows,
 }
 
 impl Model for EventBook {
@@ -48,7 +48,7 @@ impl EventBook {
     {
         EventBook {
             room: Room::new(limit),
-            flows: FlowTable::new(alloc),
+            flows: FoundFlows::new(alloc),
         }
     }
 

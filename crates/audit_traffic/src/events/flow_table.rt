@@ -1,9 +1,9 @@
 //! The last event of each flow.
 ghost use Rattle.std.specs.Prelude.{◌≡◌, ◌<◌, IfNone, IfSome, OnErr, OnOk, None, not};
 ghost use Rattle.std.specs.FinMap as finite;
-ghost use Rattle.someip_tables.specs.Changed.{each_changed};
+ghost use Rattle.someip_tables.specs.Changed.{changed_at, each_changed};
 ghost use Rattle.someip_tables.specs.Tables.{map_of};
-ghost use Rattle.audit_traffic.specs.events.EventRules.{is_at};
+ghost use Rattle.audit_traffic.specs.events.EventRules.{disturbed, is_at};
 ghost use Rattle.audit_traffic.specs.events.EventTables.{receivers_of};
 ghost use Rattle.audit_traffic.specs.events.FlowGroups.{once_came, once_changed, once_withdrawn};
 ghost use Rattle.audit_traffic.specs.events.FlowKeys.{flow_cmp};
@@ -88,6 +88,13 @@ impl FlowTable {
         groups::add(&mut self.groups, self.alloc, flow, last)?;
         self.len += 1;
         Ok(())
+    }
+
+    /// A flow is disturbed, if it is known.
+    pub(crate) fn disturb_one(&mut self, flow: &EventFlow)
+        ensures { map_of flow_cmp self.new ≡ changed_at flow.now disturbed (map_of flow_cmp self.old) }
+    {
+        groups::disturb_one(&mut self.groups, flow);
     }
 
     /// A subscription of a client at a server changed.

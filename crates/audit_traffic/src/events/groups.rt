@@ -3,9 +3,9 @@ ghost use Rattle.std.specs.Prelude.{◌≡◌, ◌≤◌, IfNone, IfSome, OnErr,
 ghost use Rattle.std.specs.FinMap as finite;
 ghost use Rattle.std.specs.List.{IsDistinct};
 ghost use Rattle.std.specs.Map.{keys_of, lookup};
-ghost use Rattle.someip_tables.specs.Changed.{each_changed};
+ghost use Rattle.someip_tables.specs.Changed.{changed_at, each_changed};
 ghost use Rattle.someip_tables.specs.Tables.{map_of};
-ghost use Rattle.audit_traffic.specs.events.EventRules.{is_at};
+ghost use Rattle.audit_traffic.specs.events.EventRules.{disturbed, is_at};
 ghost use Rattle.audit_traffic.specs.events.EventTables.{receivers_of};
 ghost use Rattle.audit_traffic.specs.events.FlowGroups.{AreFlows, changed_by, flow_to, flows_in, is_same_source, once_came};
 ghost use Rattle.audit_traffic.specs.events.FlowGroups.{once_changed, once_withdrawn};
@@ -84,6 +84,20 @@ fn begin(
     receivers.push(receiver)?;
     groups.insert(source, receivers)?;
     Ok(())
+}
+
+/// A flow is disturbed, if it is known. It looks at the receivers of its source alone.
+pub(crate) fn disturb_one(groups: &mut Groups, flow: &EventFlow)
+    requires { AreFlows groups.old.entries }
+    ensures after { map_of flow_cmp (flows_in groups.new.entries)
+        ≡ changed_at flow.now disturbed (map_of flow_cmp (flows_in groups.old.entries)) }
+    ensures count { length (flows_in groups.new.entries) ≡ length (flows_in groups.old.entries) }
+    ensures flows { AreFlows groups.new.entries }
+{
+    let Some(group) = groups.get_mut(&EventSource::of(flow)) else {
+        return;
+    };
+    receivers::disturb_one(group, &flow.receiver);
 }
 
 /// A subscription of a client at a server changed. It looks at every source, and at the receivers of those at

@@ -10,7 +10,7 @@ ghost use Rattle.std.specs.FinMap.{find};
 ghost use Rattle.std.specs.Ordering.{eq_by_cmp};
 ghost use Rattle.someip_tables.specs.Endpoints.{address_cmp, endpoint_cmp};
 ghost use Rattle.audit_traffic.specs.events.EventRules.{is_at, is_group, may_reach};
-ghost use Rattle.audit_traffic.specs.events.FlowGroups.{changed_by, disturbed_at, flow_to, lasts_of, noted};
+ghost use Rattle.audit_traffic.specs.events.FlowGroups.{changed_by, disturbed_at, disturbed_to, flow_to, lasts_of, noted};
 ghost use Rattle.audit_traffic.specs.events.FlowGroups.{once_changed, once_withdrawn};
 
 use crate::events::last_event::LastEvent;
@@ -66,6 +66,33 @@ fn noted(receiver: Receiver, event: &Notification) -> Receiver
     Receiver {
         endpoint: receiver.endpoint,
         last,
+    }
+}
+
+/// Disturbs the flow to an endpoint, if there is one.
+pub(crate) fn disturb_one(receivers: &mut Vec<Receiver>, endpoint: &SocketAddrV4)
+    ensures { receivers.new.items ≡ map (disturbed_to endpoint.now) receivers.old.items }
+{
+    disturb_to(receivers, endpoint);
+}
+
+/// Disturbs the flow to an endpoint.
+fn disturb_to(receivers: &mut [Receiver], endpoint: &SocketAddrV4)
+    ensures { receivers.new ≡ map (disturbed_to endpoint.now) receivers.old }
+{
+    for receiver in receivers.iter_mut() {
+        *receiver = disturbed_to(endpoint, *receiver);
+    }
+}
+
+/// A receiver, with its flow disturbed where it is this endpoint.
+fn disturbed_to(endpoint: &SocketAddrV4, receiver: Receiver) -> Receiver
+    ensures { result ≡ disturbed_to endpoint.now receiver }
+{
+    if is_same_endpoint(&receiver.endpoint, endpoint) {
+        disturbed(receiver)
+    } else {
+        receiver
     }
 }
 
@@ -180,7 +207,7 @@ fn may_reach(address: &Ipv4Addr, client: Ipv4Addr) -> bool
 }
 
 /// Whether an address is a multicast group's.
-fn is_group(address: &Ipv4Addr) -> bool
+pub(crate) fn is_group(address: &Ipv4Addr) -> bool
     ensures { result ≡ is_group address.now }
 {
     let first = address.octets()[0];
