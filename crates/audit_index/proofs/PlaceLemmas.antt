@@ -4,7 +4,7 @@ use Rattle.std.specs.declared.cmp.Ordering.{Ordering}
 use Rattle.std.specs.declared.cmp.Ordering.TheVariants.{Less, Equal, Greater}
 use Rattle.std.specs.Ordering.{eq_by_cmp, is_eq, ordering_then}
 use Rattle.std.specs.Cmp.{IsTotalOrder, tied_itself}
-use Rattle.std.specs.FinMap.{FinMap, IsAntisymmetric, get, insert, get-insert}
+use Rattle.std.specs.FinMap.{FinMap, IsAntisymmetric, get, insert, remove, get-insert, get-remove}
 use Rattle.someip_tables.proofs.Entries.{own_test, same_by_test}
 use Rattle.audit_index.specs.Places.{AreAt, AreAtBut, AreOnTheWay}
 use Rattle.audit_index.specs.Slots.{is_same_slot}
@@ -85,6 +85,28 @@ module _ {P K : Type 0} {Q : P → P → Ordering} {R : K → K → Ordering} (p
         left_there from one before after set (place key value) key
         (λ same. none value (ap (get m) same.1 ∙ found) (ap (λ k. wanted k value) same.1 ∙ want) (ap (λ k. place k value) same.1 ∙ sym same.0))
         (all key value found want)
+
+    -- a key is taken out, and out of its places, while others stay
+    pub at_others : (one : K) (before after : P → K → Bool) (m n : FinMap R V) → n ≡ remove m one → ((other : P) (at : K) → (at ≡ one → ⊥) → before other at ≡ true → after other at ≡ true)
+        → ((key : K) (value : V) → (key ≡ one → ⊥) → get m key ≡ Some value → wanted key value ≡ true → before (place key value) key ≡ true) → AreAt place wanted after n
+    at_others one before after m n taken stay all key value found want =
+        cases (eq_by_cmp R key one) refl (sym (get-remove o m one key) ∙ ap (λ k. get k key) (sym taken) ∙ found)
+      where
+        cases : (t : Bool) → eq_by_cmp R key one ≡ t → cond t None (get m key) ≡ Some value → after (place key value) key ≡ true
+        cases true is same = absurd (cc)
+        cases false is same = stay _ key differs (all key value differs same want)
+          where
+            differs : key ≡ one → ⊥
+            differs e = let itself : eq_by_cmp R key one ≡ true = ap (eq_by_cmp R key) (sym e) ∙ own_test o key in cc
+
+    -- where one is known to be taken from a place, others stand at theirs
+    pub but_others : (from : P) (one : K) (there : P → K → Bool) (m : FinMap R V) → AreAtBut place wanted from one there m
+        → (key : K) (value : V) → (key ≡ one → ⊥) → get m key ≡ Some value → wanted key value ≡ true → there (place key value) key ≡ true
+    but_others from one there m but key value differs found want = cases (but key value found want)
+      where
+        cases : (there (place key value) key ≡ true) ⊎ ((key ≡ one) × (place key value ≡ from)) → there (place key value) key ≡ true
+        cases (inl stands) = stands
+        cases (inr at) = absurd (differs at.0)
 
     -- a key is taken from a place, whatever its value
     pub but_taken : (from : P) (one : K) (before after : P → K → Bool) (m : FinMap R V) → ((other : P) (at : K) → after other at ≡ cond (is_same_slot Q R from one other at) false (before other at))

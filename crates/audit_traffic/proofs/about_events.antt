@@ -12,3 +12,5 @@ pub mod ReasonLemmas
 pub mod CountLemmas
 pub mod OneFlowLemmas
 pub mod SteadyLemmas
+pub mod ForgottenFlow
+pub mod EndLemmas

@@ -8,13 +8,15 @@
 //! - [`laws`]: what the definitions behind the contracts promise.
 //!
 //! The flows of a book stand in `flow_table`, those of one source of events together in `groups`, each by its
-//! receiver in `receivers`; what sessions show is in `steps`.
+//! receiver in `receivers`; what sessions show is in `steps`. What may disturb flows finds them by `steady`, and an
+//! address that begins again by `forgetting`; `found_flows` has both beside the table.
 
 mod event_book;
 mod finding;
 mod flow;
 mod flow_place;
 mod flow_table;
+mod forgetting;
 mod found_flows;
 mod groups;
 mod last_event;

@@ -7,7 +7,7 @@ use Rattle.std.specs.declared.net.ipv4_addr.Ipv4Addr.{Ipv4Addr}
 use Rattle.std.specs.Option.{option_map}
 use Rattle.std.specs.Ordering.{eq_by_cmp, is_eq, nat_cmp, ordering_then}
 use Rattle.std.specs.Cmp.{IsTotalOrder}
-use Rattle.std.specs.FinMap.{IsAntisymmetric, empty, get, get-empty, get-retain_keys, retain_keys, same_map}
+use Rattle.std.specs.FinMap.{IsAntisymmetric, empty, get, get-empty, same_map}
 use Rattle.someip_tables.specs.Changed.{changed_at, each_changed}
 use Rattle.someip_tables.specs.Endpoints.{address_cmp}
 use Rattle.someip_tables.specs.EndpointOrder.{addresses_total, exact_addresses}
@@ -149,16 +149,6 @@ module _ {P : Type 0} {Q : P → P → Ordering} (p : IsTotalOrder Q) (exact : I
       cases : (v : Option LastEvent) → get m flow ≡ v → option_map (once_came event flow) v ≡ Some last → after (place_of flow) flow ≡ true
       cases None at same = absurd (none_is_some last same)
       cases (Some l) at same = by l (eq_by_cmp flow_cmp event.flow flow) refl at (one_last (once_came event flow l) last same)
-
-  -- some are forgotten
-  pub found_less : (there : P → EventFlow → Bool) (m n : Flows) (keep : EventFlow → Bool) → n ≡ retain_keys m keep → AreAt (λ flow _. place_of flow) is_steady there m
-      → AreAt (λ flow _. place_of flow) is_steady there n
-  found_less there m n keep is all flow last found steady =
-      cases (keep flow) (sym (get-retain_keys m keep flow (λ x tie. ap keep (sym (exact_flows flow x tie)))) ∙ ap (λ k. get k flow) (sym is) ∙ found)
-    where
-      cases : (b : Bool) → cond b (get m flow) None ≡ Some last → there (place_of flow) flow ≡ true
-      cases true same = all flow last same steady
-      cases false same = absurd (none_is_some last same)
 
   pub none_at : (there : P → EventFlow → Bool) (m : Flows) → m ≡ empty → AreAt (λ flow _. place_of flow) is_steady there m
   none_at there m is flow last found steady = let none : get m flow ≡ None = ap (λ k. get k flow) is ∙ get-empty flow_cmp flow in absurd (none_is_some last (sym none ∙ found))

@@ -1,16 +1,16 @@
 -- Where a flow that is not disturbed is found, by what may disturb it.
-use Rattle.std.specs.Prelude.{Bool, not, if◌then◌else◌, [], ◌∷◌, Option}
+use Rattle.std.specs.Prelude.{Bool, true, not, if◌then◌else◌, [], ◌∷◌, Option, None}
 use Rattle.std.specs.Option.{option_map}
 use Rattle.std.specs.Ordering.{eq_by_cmp, nat_cmp, ordering_then}
 use Rattle.std.specs.declared.cmp.Ordering.{Ordering}
 use Rattle.std.specs.declared.net.ipv4_addr.Ipv4Addr.{Ipv4Addr}
 use Rattle.someip_tables.specs.Endpoints.{address_cmp}
-use Rattle.audit_index.specs.Places.{AreAt}
+use Rattle.audit_index.specs.Places.{AreAt, AreAtBut}
 use Rattle.audit_traffic.specs.declared.events.flow.EventFlow.{EventFlow}
 use Rattle.audit_traffic.specs.declared.events.last_event.LastEvent.{LastEvent}
 use Rattle.audit_traffic.specs.declared.events.offering.Offering.{Offering}
 use Rattle.audit_traffic.specs.declared.events.route.Route.{Route}
-use Rattle.audit_traffic.specs.events.EventRules.{disturbed, is_group}
+use Rattle.audit_traffic.specs.events.EventRules.{disturbed, is_at, is_group}
 use Rattle.audit_traffic.specs.events.EventTables.{Flows}
 
 -- by server, and then by receiver or service
@@ -46,7 +46,31 @@ once_disturbed_at Q place_of place flow last = if eq_by_cmp Q (place_of flow) pl
 abbrev pub becomes_disturbed : {P : Type 0} → (P → P → Ordering) → (EventFlow → P) → P → EventFlow → Option LastEvent → Option LastEvent
 becomes_disturbed Q place_of place flow = option_map (once_disturbed_at Q place_of place flow)
 
--- each flow that is not disturbed is found by what may disturb it
-pub record AreFound (routes : Route → EventFlow → Bool) (offerings : Offering → EventFlow → Bool) (flows : Flows) : Type 0 where
+-- a flow that is known
+abbrev pub is_known : EventFlow → LastEvent → Bool
+is_known flow last = true
+
+-- the addresses of a flow
+abbrev pub sender_of : EventFlow → Ipv4Addr
+sender_of flow = flow.sender.ip
+
+abbrev pub receiver_of : EventFlow → Ipv4Addr
+receiver_of flow = flow.receiver.ip
+
+-- what becomes of a flow where an address is forgotten
+abbrev pub becomes_forgotten : Ipv4Addr → EventFlow → Option LastEvent → Option LastEvent
+becomes_forgotten address flow last = if is_at address flow then None else last
+
+-- each flow is found by its addresses, and each that is not disturbed by what may disturb it
+pub record AreFound (ends : Ipv4Addr → EventFlow → Bool) (routes : Route → EventFlow → Bool) (offerings : Offering → EventFlow → Bool) (flows : Flows) : Type 0 where
+  pub by_sender : AreAt (λ flow _. sender_of flow) is_known ends flows
+  pub by_receiver : AreAt (λ flow _. receiver_of flow) is_known ends flows
+  pub by_route : AreAt (λ flow _. route_of flow) is_steady routes flows
+  pub by_offering : AreAt (λ flow _. offering_of flow) is_steady offerings flows
+
+-- the same, but perhaps of one flow at one address
+pub record AreFoundBut (address : Ipv4Addr) (one : EventFlow) (ends : Ipv4Addr → EventFlow → Bool) (routes : Route → EventFlow → Bool) (offerings : Offering → EventFlow → Bool) (flows : Flows) : Type 0 where
+  pub by_sender : AreAtBut (λ flow _. sender_of flow) is_known address one ends flows
+  pub by_receiver : AreAtBut (λ flow _. receiver_of flow) is_known address one ends flows
   pub by_route : AreAt (λ flow _. route_of flow) is_steady routes flows
   pub by_offering : AreAt (λ flow _. offering_of flow) is_steady offerings flows

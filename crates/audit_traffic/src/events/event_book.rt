@@ -81,7 +81,8 @@ impl EventBook {
 
     /// Takes note that a subscription of a client at a server changed: by a Subscribe, a StopSubscribe,
     /// an Ack or a Nack, or because it expired. No gap is told of the next event from the server to that
-    /// client, or to a multicast group. It looks at the source of every flow, and takes no memory.
+    /// client, or to a multicast group. It takes no memory, and looks at these flows alone, unless memory was
+    /// refused before.
     pub fn disturb(&mut self, client: Ipv4Addr, server: Ipv4Addr)
         ensures { self.new ≡ after_change client server self.old }
     {
@@ -89,7 +90,8 @@ impl EventBook {
     }
 
     /// Takes note that a server withdrew an offer of a service by a StopOffer: no gap is told of the next
-    /// event of each flow of that service. It looks at the source of every flow, and takes no memory.
+    /// event of each flow of that service. It takes no memory, and looks at these flows alone, unless memory
+    /// was refused before.
     pub fn withdraw(&mut self, server: Ipv4Addr, service: u16)
         ensures { self.new ≡ after_withdrawal server service self.old }
     {
@@ -97,7 +99,7 @@ impl EventBook {
     }
 
     /// Forgets the flows from an address that began again, and those to it: the next event of each is
-    /// the first. It looks at every flow, and takes no memory.
+    /// the first. It takes no memory, and looks at these flows alone, unless memory was refused before.
     pub fn forget(&mut self, address: Ipv4Addr)
         ensures { self.new ≡ without address self.old }
     {

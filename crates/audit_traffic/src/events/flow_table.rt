@@ -13,6 +13,7 @@ use crate::events::groups;
 use crate::events::groups::Groups;
 use crate::events::last_event::LastEvent;
 use crate::events::notification::Notification;
+use crate::events::source::EventSource;
 use std::alloc::{AllocError, Global};
 use std::collections::HashMap;
 use std::marker::Model;
@@ -95,6 +96,17 @@ impl FlowTable {
         ensures { map_of flow_cmp self.new ≡ changed_at flow.now disturbed (map_of flow_cmp self.old) }
     {
         groups::disturb_one(&mut self.groups, flow);
+    }
+
+    /// A flow is forgotten.
+    pub(crate) fn forget_one(&mut self, flow: &EventFlow)
+        ensures { map_of flow_cmp self.new ≡ finite.remove (map_of flow_cmp self.old) flow.now }
+    {
+        let was_known = groups::forget_one(&mut self.groups, flow);
+        groups::drop_empty(&mut self.groups, &EventSource::of(flow));
+        if was_known {
+            self.len -= 1;
+        }
     }
 
     /// A subscription of a client at a server changed.

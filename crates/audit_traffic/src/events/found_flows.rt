@@ -11,6 +11,7 @@ ghost use Rattle.audit_traffic.specs.events.FlowKeys.{flow_cmp};
 use crate::events::flow::EventFlow;
 use crate::events::flow_place::all_groups;
 use crate::events::flow_table::FlowTable;
+use crate::events::forgetting::{forget_at, put_flow};
 use crate::events::last_event::LastEvent;
 use crate::events::notification::Notification;
 use crate::events::offering::Offering;
@@ -27,6 +28,7 @@ use std::net::Ipv4Addr;
 #[derive(Drop)]
 pub(crate) struct FoundFlows {
     flows: FlowTable,
+    ends: Index<Ipv4Addr, EventFlow>,
     routes: Index<Route, EventFlow>,
     offerings: Index<Offering, EventFlow>,
     is_whole: bool,
@@ -34,6 +36,7 @@ pub(crate) struct FoundFlows {
 
 impl Model for FoundFlows {
     ghost use Rattle.std.specs.Prelude.{◌≡◌, List, true};
+    ghost use Rattle.someip_tables.specs.Endpoints.{address_cmp};
     ghost use Rattle.someip_tables.specs.Tables.{map_of};
     ghost use Rattle.audit_index.specs.Slots.{stands};
     ghost use Rattle.audit_traffic.specs.events.FlowKeys.{flow_cmp};
@@ -46,8 +49,8 @@ impl Model for FoundFlows {
     ghost view = { λ f. f.flows };
 
     ghost invariant = { λ f. f.is_whole ≡ true
-        → AreFound (stands route_cmp flow_cmp f.routes) (stands offering_cmp flow_cmp f.offerings)
-        (map_of flow_cmp f.flows) };
+        → AreFound (stands address_cmp flow_cmp f.ends) (stands route_cmp flow_cmp f.routes)
+        (stands offering_cmp flow_cmp f.offerings) (map_of flow_cmp f.flows) };
 }
 
 impl FoundFlows {
@@ -57,6 +60,7 @@ impl FoundFlows {
     {
         FoundFlows {
             flows: FlowTable::new(alloc),
+            ends: Index::new(alloc),
             routes: Index::new(alloc),
             offerings: Index::new(alloc),
             is_whole: true,
@@ -101,7 +105,7 @@ impl FoundFlows {
         ensures err { OnErr result (map_of flow_cmp self.new ≡ map_of flow_cmp self.old) }
     {
         self.flows.add(flow, last)?;
-        if !put_steady(&mut self.routes, &mut self.offerings, flow) {
+        if !put_flow(&mut self.ends, &mut self.routes, &mut self.offerings, flow) {
             self.is_whole = false;
         }
         Ok(())
@@ -145,6 +149,16 @@ impl FoundFlows {
         ensures { map_of flow_cmp self.new
             ≡ finite.retain_keys (map_of flow_cmp self.old) (λ flow. not (is_at address flow)) }
     {
-        self.flows.forget(address);
+        if !self.is_whole {
+            self.flows.forget(address);
+            return;
+        }
+        forget_at(
+            &mut self.flows,
+            &mut self.ends,
+            &mut self.routes,
+            &mut self.offerings,
+            address,
+        );
     }
 }

@@ -1,5 +1,6 @@
 //! The flows of a book, those of one source of events together.
-ghost use Rattle.std.specs.Prelude.{◌≡◌, ◌≤◌, IfNone, IfSome, OnErr, OnOk, None, filter, length, map, nat_lt, not, true};
+ghost use Rattle.std.specs.Prelude.{◌≡◌, ◌≤◌, IfNone, IfSome, OnErr, OnOk, None, Some, [], filter, is_some, length, map, nat_lt, not, true};
+ghost use Rattle.std.specs.Global.{Vec};
 ghost use Rattle.std.specs.FinMap as finite;
 ghost use Rattle.std.specs.List.{IsDistinct};
 ghost use Rattle.std.specs.Map.{keys_of, lookup};
@@ -10,6 +11,7 @@ ghost use Rattle.audit_traffic.specs.events.EventTables.{receivers_of};
 ghost use Rattle.audit_traffic.specs.events.FlowGroups.{AreFlows, changed_by, flow_to, flows_in, is_same_source, once_came};
 ghost use Rattle.audit_traffic.specs.events.FlowGroups.{once_changed, once_withdrawn};
 ghost use Rattle.audit_traffic.specs.events.FlowKeys.{flow_cmp};
+ghost use Rattle.audit_traffic.specs.declared.events.receiver.Receiver.{Receiver};
 
 use crate::events::flow::EventFlow;
 use crate::events::last_event::LastEvent;
@@ -139,6 +141,44 @@ pub(crate) fn withdraw(groups: &mut Groups, server: Ipv4Addr, service: u16)
             true
         },
     );
+}
+
+/// A flow is forgotten: it goes from the receivers of its source. Says whether it was known.
+pub(crate) fn forget_one(groups: &mut Groups, flow: &EventFlow) -> bool
+    requires { AreFlows groups.old.entries }
+    ensures there { result ≡ is_some (finite.get (map_of flow_cmp (flows_in groups.old.entries)) flow.now) }
+    ensures after { map_of flow_cmp (flows_in groups.new.entries)
+        ≡ finite.remove (map_of flow_cmp (flows_in groups.old.entries)) flow.now }
+    ensures flows { AreFlows groups.new.entries }
+{
+    let Some(group) = groups.get_mut(&EventSource::of(flow)) else {
+        return false;
+    };
+    receivers::forget_one(group, &flow.receiver)
+}
+
+/// Drops a source that has no receiver.
+pub(crate) fn drop_empty(groups: &mut Groups, source: &EventSource)
+    requires { AreFlows groups.old.entries }
+    ensures after { map_of flow_cmp (flows_in groups.new.entries) ≡ map_of flow_cmp (flows_in groups.old.entries) }
+    ensures flows { AreFlows groups.new.entries }
+{
+    // No source stands twice in a map.
+    let _each = groups.values();
+    if is_empty(groups, source) {
+        groups.remove(source);
+    }
+}
+
+/// Whether a source is there, and has no receiver.
+fn is_empty(groups: &Groups, source: &EventSource) -> bool
+    ensures { result ≡ true → (receivers : Vec Receiver)
+        → lookup (is_same_source source.now) groups.now.entries ≡ Some receivers → receivers.items ≡ [] }
+{
+    match groups.get(source) {
+        Some(receivers) => receivers.is_empty(),
+        None => false,
+    }
 }
 
 /// An address began again: the flows from it and to it are forgotten.

@@ -2,10 +2,9 @@
 //!
 //! The receivers of one event of one sender stand together in the book of events, and are found by the hash
 //! of the event and its sender: an event of a known flow takes one look, and two steps at most for each of
-//! its receivers, which are told that it came; one of a new flow takes a few looks. So one event to 65,536
-//! receivers takes up to twice that many steps each time; an entry of an eventgroup goes over the senders
-//! of all events, and then over the receivers of those at one address.
-ghost use Rattle.std.specs.Prelude.{◌≡◌, ◌==◌, ◌&&◌, IfNone, IfSome, filter, if◌then◌else◌, length, map, nat_lt, not};
+//! its receivers, which are told that it came; one of a new flow takes a few looks. What disturbs a flow, or
+//! forgets it, goes over the receivers of its source.
+ghost use Rattle.std.specs.Prelude.{◌≡◌, ◌==◌, ◌&&◌, IfNone, IfSome, filter, if◌then◌else◌, is_some, length, map, nat_lt, not};
 ghost use Rattle.std.specs.FinMap.{find};
 ghost use Rattle.std.specs.Ordering.{eq_by_cmp};
 ghost use Rattle.someip_tables.specs.Endpoints.{address_cmp, endpoint_cmp};
@@ -94,6 +93,17 @@ fn disturbed_to(endpoint: &SocketAddrV4, receiver: Receiver) -> Receiver
     } else {
         receiver
     }
+}
+
+/// Forgets the flow to an endpoint, and says whether there was one.
+pub(crate) fn forget_one(receivers: &mut Vec<Receiver>, endpoint: &SocketAddrV4) -> bool
+    ensures there { result ≡ is_some (find endpoint_cmp endpoint.now (lasts_of receivers.old.items)) }
+    ensures left { receivers.new.items
+        ≡ filter (λ r. not (eq_by_cmp endpoint_cmp r.endpoint endpoint.now)) receivers.old.items }
+{
+    let is_there = last_of(receivers, endpoint).is_some();
+    receivers.retain(|receiver| !is_same_endpoint(&receiver.endpoint, endpoint));
+    is_there
 }
 
 /// A subscription of a client at a server changed: the flows from this server to this client, and to a multicast
