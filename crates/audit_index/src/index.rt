@@ -51,6 +51,7 @@ impl<P: Key, K: Key> Index<P, K> {
         ensures taken { (other : P) (at : K) → stands P.cmp K.cmp self.new other at
             ≡ (if is_same_slot P.cmp K.cmp place key other at then false else stands P.cmp K.cmp self.old other at) }
         ensures fewer { length self.new ≤ length self.old }
+        ensures one_less { stands P.cmp K.cmp self.old place key ≡ true → length self.new < length self.old }
     {
         self.slots.remove(&slot(place, key));
     }

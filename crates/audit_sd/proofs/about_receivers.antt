@@ -1,4 +1,5 @@
-pub mod FineLemmas
+pub mod StandingLemmas
+pub mod PlacedLemmas
 pub mod SubscribedLemmas
 pub mod HistoryLemmas
 pub mod ToldLemmas

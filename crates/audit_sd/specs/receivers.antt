@@ -4,4 +4,5 @@ pub mod ReceiverRules
 pub mod ReceiverTables
 pub mod ReceiverHistories
 pub mod ReceiverExamples
-pub mod FoundSubscribed
+pub mod ReceiverPlaces
+pub mod PlaceOrder

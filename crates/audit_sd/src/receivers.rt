@@ -7,12 +7,18 @@
 //!   [`Delivery`]: of an event that went to one endpoint;
 //! - [`Finding`]: what these show;
 //! - [`laws`]: what the definitions behind the contracts promise.
+//!
+//! What stands is in `standing`, which finds it by its `places`; several subscriptions end at once in `ending`.
 
 mod delivery;
+mod ending;
 mod entry;
+mod event_end;
 mod finding;
 pub mod laws;
+mod places;
 mod receiver_book;
+mod standing;
 mod steps;
 
 pub use delivery::Delivery;

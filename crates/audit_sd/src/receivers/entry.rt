@@ -1,5 +1,8 @@
 //! What a recording shows of subscriptions.
+ghost use Rattle.audit_sd.specs.receivers.PlaceOrder.{exact_offers};
+
 use crate::subscriptions::{EntryKind, SubscriptionKey};
+use someip_tables::Key;
 use std::net::{Ipv4Addr, SocketAddrV4};
 
 /// An entry of an eventgroup: with a TTL above 0 a Subscribe or an Ack, else a StopSubscribe or a Nack
@@ -18,8 +21,8 @@ pub struct ReceiverEntry {
     pub endpoint: Option<SocketAddrV4>,
 }
 
-/// An offer that its server withdrew by a StopOffer.
-#[derive(Clone, Copy, Debug, PartialEq, Eq)]
+/// An offer that its server withdrew by a StopOffer: by rising address of the server, and then by the numbers.
+#[derive(Clone, Copy, Debug, PartialEq, Eq, PartialOrd, Ord)]
 pub struct WithdrawnOffer {
     /// The address that offered.
     pub server: Ipv4Addr,
@@ -29,4 +32,8 @@ pub struct WithdrawnOffer {
     pub instance: u16,
     /// Major version.
     pub major: u8,
+}
+
+impl Key for WithdrawnOffer {
+    ghost exact = { exact_offers };
 }

@@ -10,28 +10,25 @@ ghost use Rattle.audit_sd.specs.receivers.ReceiverTables.{without_offer};
 use crate::receivers::delivery::Delivery;
 use crate::receivers::entry::{ReceiverEntry, WithdrawnOffer};
 use crate::receivers::finding::Finding;
+use crate::receivers::standing::Standing;
 use crate::receivers::steps::{
-    Fine, Standing, Told, acknowledge, drop_expired, end, forget, has_receiver, has_room,
-    is_silent, is_told, may_hold, note, subscribe, untell, withdraw,
+    Told, acknowledge, has_room, is_silent, is_told, may_hold, note, subscribe, untell,
 };
 use crate::subscriptions::{EntryKind, SubscriptionKey};
+use someip_tables::Moment;
 use someip_tables::hashed::{KeySet, Room};
-use someip_tables::{DeadlineMap, Moment};
 use std::alloc::{AllocError, Global};
 use std::collections::BTreeSet;
 use std::marker::Model;
 use std::net::Ipv4Addr;
 
-/// The subscriptions that stand, and the events that were told. Beside them it keeps which endpoints it
-/// found subscribed since a subscription last ended, so that it looks for the subscription of an event
-/// once in that time.
+/// The subscriptions that stand, and the events that were told.
 #[derive(Drop)]
 pub struct ReceiverBook {
     room: Room,
     settled: Moment,
     standing: Standing,
     told: Told,
-    fine: Fine,
 }
 
 impl Model for ReceiverBook {
@@ -39,7 +36,6 @@ impl Model for ReceiverBook {
     ghost use Rattle.audit_sd.specs.subscriptions.SubscriptionKeys.{subscription_cmp};
     ghost use Rattle.audit_sd.specs.receivers.DeliveryKeys.{delivery_cmp};
     ghost use Rattle.audit_sd.specs.receivers.ReceiverTables.{Receivers, coded_receivers};
-    ghost use Rattle.audit_sd.specs.receivers.FoundSubscribed.{AreSubscribed};
 
     ghost Value = { Receivers };
 
@@ -52,9 +48,6 @@ impl Model for ReceiverBook {
       told = map_of delivery_cmp b.told;
       told_full = b.room.told_full;
     } };
-
-    ghost invariant = { λ b. AreSubscribed (map_of delivery_cmp b.fine)
-        (map_of subscription_cmp b.standing) };
 }
 
 impl ReceiverBook {
@@ -72,9 +65,8 @@ impl ReceiverBook {
         ReceiverBook {
             room: Room::new(limit),
             settled,
-            standing: DeadlineMap::new(alloc),
+            standing: Standing::new(alloc),
             told: KeySet::new(alloc),
-            fine: KeySet::new(alloc),
         }
     }
 
@@ -93,7 +85,7 @@ impl ReceiverBook {
         ensures grows { OnErr result (expired now self.old.standing ≢ finite.empty) }
         ensures unchanged { OnErr result (self.new ≡ self.old) }
     {
-        drop_expired(&mut self.standing, &mut self.fine, alloc, now)
+        self.standing.expire(alloc, now)
     }
 
     /// Takes note of an entry of an eventgroup. It tells nothing but that the book is full.
@@ -110,11 +102,11 @@ impl ReceiverBook {
             (NeedsMemory (finite.get self.old.standing entry.key) (deadline_after now entry.ttl)) }
     {
         if entry.ttl == 0 {
-            end(&mut self.standing, &mut self.fine, &entry);
+            self.standing.remove(&entry.key);
             return Ok(None);
         }
         if matches!(entry.kind, EntryKind::Answer) {
-            acknowledge(&mut self.standing, &self.fine, now, &entry)?;
+            acknowledge(&mut self.standing, now, &entry)?;
             return Ok(None);
         }
         let Some(endpoint) = entry.endpoint else {
@@ -123,25 +115,25 @@ impl ReceiverBook {
         if !may_hold(&self.standing, self.room, &entry) {
             return Ok(self.room.tell_full(Finding::Full));
         }
-        subscribe(&mut self.standing, &mut self.fine, now, &entry, endpoint)?;
+        subscribe(&mut self.standing, now, &entry, endpoint)?;
         untell(&mut self.told, &entry, endpoint);
         Ok(None)
     }
 
-    /// Ends the subscriptions to an offer that its server withdrew. It looks at every one, and takes no
-    /// memory.
+    /// Ends the subscriptions to an offer that its server withdrew. It takes no memory, and looks at these
+    /// alone, unless memory was refused before.
     pub fn withdraw(&mut self, offer: WithdrawnOffer)
         ensures { self.new ≡ without_offer offer self.old }
     {
-        withdraw(&mut self.standing, &mut self.fine, offer);
+        self.standing.withdraw(offer);
     }
 
-    /// Ends the subscriptions of an address that began again, and those at it. It looks at every one, and
-    /// takes no memory.
+    /// Ends the subscriptions of an address that began again, and those at it. It takes no memory, and looks
+    /// at these alone, unless memory was refused before.
     pub fn forget(&mut self, address: Ipv4Addr)
         ensures { self.new ≡ without address self.old }
     {
-        forget(&mut self.standing, &mut self.fine, address);
+        self.standing.forget(address);
     }
 
     /// Says what an event shows that went to one endpoint: that this has no subscription, once for each
@@ -160,7 +152,7 @@ impl ReceiverBook {
         if is_told(&self.told, &delivery) {
             return Ok(None);
         }
-        if has_receiver(&self.standing, &mut self.fine, self.room.limit, delivery) {
+        if self.standing.is_subscribed(&delivery) {
             return Ok(None);
         }
         if !has_room(&self.told, self.room.limit) {
