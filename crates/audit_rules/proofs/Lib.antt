@@ -1,1 +1,2 @@
 mod WeighingLemmas
+pub mod RulelessLemmas

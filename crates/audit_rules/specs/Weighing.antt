@@ -29,6 +29,12 @@ weighed_as weights.Counts w = record w { counting = w.counting + 1 }
 weighed_as weights.Allowed w = record w { allowed = w.allowed + 1 }
 weighed_as (weights.Bounded place) w = record w { bounded = slice_set w.bounded place (slice_index w.bounded place + 1) }
 
+-- how many came that weigh so
+abbrev pub number_as : Weight → Weights → ℕ
+number_as weights.Counts w = w.counting
+number_as weights.Allowed w = w.allowed
+number_as (weights.Bounded place) w = slice_index w.bounded place
+
 -- one more came of a kind, that names this service and this method, or none
 abbrev pub weighed : ℕ → Option ℕ → Option ℕ → Weights → Weights
 weighed kind service method w = weighed_as (weight_by w.rules kind service method) w

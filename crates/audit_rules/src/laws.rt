@@ -5,7 +5,7 @@ ghost use Rattle.audit_rules.specs.Fitting.{answer_ms_by, first_that_fits, weigh
 ghost use Rattle.audit_rules.specs.Kinds.{kind_number};
 ghost use Rattle.audit_rules.specs.Scenes.{came, lenient, of_service, strict};
 ghost use Rattle.audit_rules.specs.Weighing.{NamedFinding, all_weighed, count_of, does_count, exceeded, fails};
-ghost use Rattle.audit_rules.specs.Weighing.{is_allowed, is_counted_at, weights_begun};
+ghost use Rattle.audit_rules.specs.Weighing.{is_allowed, is_any, is_counted_at, weights_begun};
 ghost use Rattle.audit_rules.specs.declared.rule.Rule.{Rule};
 ghost use Rattle.audit_rules.specs.declared.kind.Kind.TheVariants.{EventGap, Late, Reboot, Unanswered};
 ghost use Rattle.audit_rules.specs.declared.rules.Weight.TheVariants.{Allowed, Bounded, Counts};
@@ -52,6 +52,11 @@ pub fn what_came_fails_by_example()
     ensures how_many { (came 9 Late (weights_begun of_service)).allowed ≡ 9 }
     ensures counts { fails (came 1 Unanswered (weights_begun of_service)) ≡ true }
     ensures no_rules { fails (came 1 Late (weights_begun [])) ≡ true }
+{}
+
+/// Without rules any finding fails the audit, and nothing else does.
+pub fn without_rules_any_finding_fails()
+    ensures { (came : List NamedFinding) → fails (all_weighed came (weights_begun [])) ≡ is_any came }
 {}
 
 /// A book has counted, of all findings that came, those that count, those that are allowed, and at each place those

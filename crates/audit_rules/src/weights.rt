@@ -1,7 +1,7 @@
 //! What came by the rules of a bench.
 ghost use Rattle.std.specs.Prelude.{◌≡◌, ◌+◌, ◌<◌, ◌++◌, IfOk, OnErr, OnOk, slice_index};
 ghost use Rattle.audit_rules.specs.Fitting.{weight_by};
-ghost use Rattle.audit_rules.specs.Weighing.{exceeded, exceeded_by, exceeded_from, fails, weighed, weighed_as, weights_begun};
+ghost use Rattle.audit_rules.specs.Weighing.{exceeded, exceeded_by, exceeded_from, fails, number_as, weighed, weighed_as, weights_begun};
 
 use crate::kind::KIND_COUNT;
 use crate::rule::{Rule, Treatment};
@@ -66,7 +66,7 @@ impl WeightBook {
     }
 
     /// One more finding of the kind with this number came, that names this service and this method, or none. The
-    /// error is that there is no room for its number.
+    /// error is that as many came that weigh so as the machine can count.
     pub fn came(
         &mut self,
         kind: u8,
@@ -75,6 +75,7 @@ impl WeightBook {
     ) -> Result<(), AllocError>
         ensures ok { OnOk result (self.new ≡ weighed kind service method self.old) }
         ensures err { OnErr result (self.new ≡ self.old) }
+        ensures full { OnErr result (number_as (weight_by self.old.rules kind service method) self.old ≡ usize.MAX) }
     {
         match self.rules.weight(kind, service, method) {
             Weight::Counts => self.counting = one_more(self.counting)?,
@@ -178,6 +179,7 @@ fn number_at(numbers: &[usize], place: usize) -> usize
 /// The next number, if there is room for it.
 fn one_more(number: usize) -> Result<usize, AllocError>
     ensures next { IfOk result (λ next. next ≡ number + 1) }
+    ensures full { OnErr result (number ≡ usize.MAX) }
 {
     number.checked_add(1).ok_or(AllocError)
 }
