@@ -143,6 +143,7 @@ impl<R: Reassembly> Node<R> {
         ensures reacts { Reacts self.old (input.Datagram from to bytes.now) result self.new }
         ensures errors { IfErr result (λ error. is_call_refusal error ≡ true) }
         ensures failed { StaysFailed self.old result self.new }
+        ensures config { self.new.config ≡ self.old.config }
     {
         let mut giving = begin(self.failed, self.alloc)?;
         let done = self.engine.take_datagram(from, to, bytes, &mut giving);
@@ -160,6 +161,7 @@ impl<R: Reassembly> Node<R> {
         ensures quiet { TakesNoMemory self.old (input.Tick ms) result }
         ensures errors { IfErr result (λ error. is_call_refusal error ≡ true) }
         ensures failed { StaysFailed self.old result self.new }
+        ensures config { self.new.config ≡ self.old.config }
     {
         let mut giving = begin(self.failed, self.alloc)?;
         let done = self.engine.take_tick(ms, &mut giving);
@@ -204,6 +206,7 @@ impl<R: Reassembly> Node<R> {
             result self.new }
         ensures errors { IfErr result (λ error. is_call_refusal error ≡ true) }
         ensures failed { StaysFailed self.old result self.new }
+        ensures config { self.new.config ≡ self.old.config }
     {
         let mut giving = begin(self.failed, self.alloc)?;
         let done = self
@@ -227,6 +230,7 @@ impl<R: Reassembly> Node<R> {
         ensures reacts { Reacts self.old (input.Answer token reply payload.now) result self.new }
         ensures errors { IfErr result (λ error. is_call_refusal error ≡ true) }
         ensures failed { StaysFailed self.old result self.new }
+        ensures config { self.new.config ≡ self.old.config }
     {
         let mut giving = begin(self.failed, self.alloc)?;
         let done = self.engine.answer(token, reply, payload, &mut giving);
@@ -248,6 +252,7 @@ impl<R: Reassembly> Node<R> {
         ensures reacts { Reacts self.old (input.Publish instance event payload.now) result self.new }
         ensures errors { IfErr result (λ error. is_call_refusal error ≡ true) }
         ensures failed { StaysFailed self.old result self.new }
+        ensures config { self.new.config ≡ self.old.config }
     {
         let mut giving = begin(self.failed, self.alloc)?;
         let done = self.engine.publish(instance, event, payload, &mut giving);
@@ -272,6 +277,7 @@ impl<R: Reassembly> Node<R> {
             (input.PublishTo instance eventgroup endpoint event payload.now) result self.new }
         ensures errors { IfErr result (λ error. is_call_refusal error ≡ true) }
         ensures failed { StaysFailed self.old result self.new }
+        ensures config { self.new.config ≡ self.old.config }
     {
         let mut giving = begin(self.failed, self.alloc)?;
         let done = self.engine.publish_to(
@@ -294,6 +300,7 @@ impl<R: Reassembly> Node<R> {
         ensures reacts { Reacts self.old (input.Subscribe eventgroup) result self.new }
         ensures errors { IfErr result (λ error. is_call_refusal error ≡ true) }
         ensures failed { StaysFailed self.old result self.new }
+        ensures config { self.new.config ≡ self.old.config }
     {
         let mut giving = begin(self.failed, self.alloc)?;
         let done = self.engine.subscribe_to(eventgroup, &mut giving);
@@ -309,6 +316,7 @@ impl<R: Reassembly> Node<R> {
         ensures reacts { Reacts self.old (input.Unsubscribe eventgroup) result self.new }
         ensures errors { IfErr result (λ error. is_call_refusal error ≡ true) }
         ensures failed { StaysFailed self.old result self.new }
+        ensures config { self.new.config ≡ self.old.config }
     {
         let mut giving = begin(self.failed, self.alloc)?;
         let done = self.engine.unsubscribe_from(eventgroup, &mut giving);
@@ -324,6 +332,7 @@ impl<R: Reassembly> Node<R> {
         ensures reacts { Reacts self.old (input.StopOffer instance) result self.new }
         ensures errors { IfErr result (λ error. is_call_refusal error ≡ true) }
         ensures failed { StaysFailed self.old result self.new }
+        ensures config { self.new.config ≡ self.old.config }
     {
         let mut giving = begin(self.failed, self.alloc)?;
         let done = self.engine.stop_offering(instance, &mut giving);
