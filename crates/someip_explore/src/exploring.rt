@@ -13,9 +13,8 @@ use crate::search::{Explored, Game, Judgement, search_up_to};
 use crate::traced::run_traced;
 use crate::watching::Watcher;
 use someip_tp::Reassembly;
-use someip_world::{RunError, Setup, Step};
+use someip_world::{Actors, RunError, Setup, Step};
 use std::alloc::{AllocError, Global};
-use std::marker::PhantomData;
 
 /// What a search among the schedules of some moves came to.
 #[derive(Drop)]
@@ -43,23 +42,23 @@ pub enum Exploration {
 #[derive(Drop)]
 struct Explorer<'e, R: Reassembly> {
     alloc: Global,
-    setup: &'e Setup,
+    actors: Actors<'e, R>,
     moves: &'e [Move],
     goal: &'e Goal,
     done: usize,
-    store: PhantomData<R>,
 }
 
 impl<'e, R: Reassembly> Game<Step> for Explorer<'e, R> {
-    ghost goes_on = { λ e. next_steps e.setup.now.nodes e.moves.now };
+    ghost goes_on = { λ e. next_steps e.actors.nodes e.moves.now };
 
-    ghost comes_to = { λ e. judgement_of e.setup.now.nodes (goal_of e.goal.now) e.done };
+    ghost comes_to = { λ e. judgement_of e.actors.nodes (goal_of e.goal.now) e.done };
 
     #[tactic(auto, using(crate::proofs::ExploringLemmas::next_so, crate::proofs::ExploringLemmas::none_next))]
-    fn next(&self, steps: &[Step]) -> Result<Vec<Step>, AllocError> {
-        match run_traced::<R>(self.alloc, self.setup, steps) {
+    fn next(&mut self, steps: &[Step]) -> Result<Vec<Step>, AllocError> {
+        let setup = self.actors.setup();
+        match run_traced(&mut self.actors, steps) {
             Ok(lines) => {
-                let nodes = self.setup.nodes();
+                let nodes = setup.nodes();
                 steps_after(self.alloc, nodes, steps, lines.as_slice(), self.moves)
             }
             Err(RunError::BadStep(..)) => Ok(Vec::new(self.alloc)),
@@ -68,15 +67,16 @@ impl<'e, R: Reassembly> Game<Step> for Explorer<'e, R> {
     }
 
     #[tactic(auto, using(crate::proofs::ExploringLemmas::judged_so, crate::proofs::ExploringLemmas::judged_bad))]
-    fn judge(&self, steps: &[Step]) -> Result<Judgement, AllocError> {
-        let lines = match run_traced::<R>(self.alloc, self.setup, steps) {
+    fn judge(&mut self, steps: &[Step]) -> Result<Judgement, AllocError> {
+        let setup = self.actors.setup();
+        let lines = match run_traced(&mut self.actors, steps) {
             Ok(lines) => lines,
             Err(RunError::BadStep(..)) => return Ok(Judgement::Bad),
             Err(RunError::OutOfMemory) => return Err(AllocError),
         };
         if run_reaches(
             self.alloc,
-            self.setup,
+            setup,
             steps,
             self.goal,
             self.done,
@@ -105,8 +105,8 @@ fn exploration_of(steps: Vec<Step>, explored: Explored) -> Exploration
 
 /// Tries all schedules that begin with some steps and go on by at most so many moves, over the nodes of a
 /// setup: shorter ones first, and those of one length in the order of the moves, the first move first.
-/// Each is run anew. One that has a bad step is not judged, and none goes on behind a bad step. What comes of it
-/// is the same for each store of segments `R`. `SegmentList` reserves no memory, so its nodes start fast.
+/// Each is run from its first step, over nodes that start again. One that has a bad step is not judged, and
+/// none goes on behind a bad step. What comes of it is the same for each store of segments `R`.
 ///
 /// It finds the first that reaches the goal, or none does; or more are good than the limits allow. An error
 /// says that memory ran out. The watcher is told of each million schedules that were judged, and changes nothing
@@ -123,17 +123,17 @@ pub fn explore<R: Reassembly, W: Watcher>(
     ensures explored { IfOk result (ExploresTo setup.now.nodes moves.now (goal_of goal.now) limits beginning.items) }
     ensures watched { Watched W.hears (judged_count limits) result watcher.old watcher.new }
 {
-    let explorer = Explorer::<R> {
+    let actors = Actors::<R>::of(alloc, setup)?;
+    let mut explorer = Explorer {
         alloc,
-        setup,
+        actors,
         moves,
         goal,
         done: beginning.len(),
-        store: PhantomData,
     };
     let mut steps = beginning;
     let explored = search_up_to(
-        &explorer,
+        &mut explorer,
         &mut steps,
         limits.steps(),
         limits.schedules(),

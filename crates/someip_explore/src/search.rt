@@ -50,17 +50,19 @@ pub(crate) trait Game<S> {
     ghost comes_to: { Self → List S → Judgement };
 
     /// The steps by which a schedule may go on.
-    fn next(&self, steps: &[S]) -> Result<Vec<S>, AllocError>
-        ensures { IfOk result (λ found. found.items ≡ goes_on self.now steps.now) };
+    fn next(&mut self, steps: &[S]) -> Result<Vec<S>, AllocError>
+        ensures found { IfOk result (λ found. found.items ≡ goes_on self.old steps.now) }
+        ensures kept { self.new ≡ self.old };
 
     /// What a schedule comes to.
-    fn judge(&self, steps: &[S]) -> Result<Judgement, AllocError>
-        ensures { IfOk result (λ judgement. judgement ≡ comes_to self.now steps.now) };
+    fn judge(&mut self, steps: &[S]) -> Result<Judgement, AllocError>
+        ensures judged { IfOk result (λ judgement. judgement ≡ comes_to self.old steps.now) }
+        ensures kept { self.new ≡ self.old };
 }
 
 /// What comes of one schedule, where so many were judged before it.
 fn search_one<S, G: Game<S>, W: Watcher>(
-    game: &G,
+    game: &mut G,
     steps: &[S],
     judged: u64,
     most: u64,
@@ -68,7 +70,8 @@ fn search_one<S, G: Game<S>, W: Watcher>(
 ) -> Result<Ended, AllocError>
     requires { judged ≤ most }
     ensures ended { IfOk result (λ ended. Comes (search_one most judged steps.now
-        (G.comes_to game.now steps.now)) ended steps.now steps.now) }
+        (G.comes_to game.old steps.now)) ended steps.now steps.now) }
+    ensures kept { game.new ≡ game.old }
     ensures watched { (first : W) → HearsOf W.hears judged first watcher.old
         → Watched W.hears (judged_at most) result first watcher.new }
 {
@@ -82,7 +85,7 @@ fn search_one<S, G: Game<S>, W: Watcher>(
 
 /// Tries all schedules with so many more steps behind some. The first that reaches the goal stays.
 pub(crate) fn search_behind<S: Drop, G: Game<S>, W: Watcher>(
-    game: &G,
+    game: &mut G,
     steps: &mut Vec<S>,
     left: usize,
     judged: u64,
@@ -90,9 +93,10 @@ pub(crate) fn search_behind<S: Drop, G: Game<S>, W: Watcher>(
     watcher: &mut W,
 ) -> Result<Ended, AllocError>
     requires { judged ≤ most }
-    ensures ended { IfOk result (λ ended. Comes (search_all (G.comes_to game.now) most
-        (longer_by (G.goes_on game.now) left steps.old.items) judged)
+    ensures ended { IfOk result (λ ended. Comes (search_all (G.comes_to game.old) most
+        (longer_by (G.goes_on game.old) left steps.old.items) judged)
         ended steps.old.items steps.new.items) }
+    ensures kept { game.new ≡ game.old }
     ensures watched { (first : W) → HearsOf W.hears judged first watcher.old
         → Watched W.hears (judged_at most) result first watcher.new }
 {
@@ -115,7 +119,7 @@ pub(crate) fn search_behind<S: Drop, G: Game<S>, W: Watcher>(
 /// Tries all schedules with at most so many more steps behind some, the shorter ones first, of which at
 /// most so many may be judged. The first that reaches the goal stays.
 pub(crate) fn search_up_to<S: Drop, G: Game<S>, W: Watcher>(
-    game: &G,
+    game: &mut G,
     steps: &mut Vec<S>,
     longest: usize,
     most: u64,
@@ -123,8 +127,9 @@ pub(crate) fn search_up_to<S: Drop, G: Game<S>, W: Watcher>(
 ) -> Result<Explored, AllocError>
     requires longest { longest < usize.MAX }
     requires most { 0 < most }
-    ensures explored { IfOk result (Explores (G.goes_on game.now) (G.comes_to game.now) longest most
+    ensures explored { IfOk result (Explores (G.goes_on game.old) (G.comes_to game.old) longest most
         steps.old.items steps.new.items) }
+    ensures kept { game.new ≡ game.old }
     ensures watched { Watched W.hears (judged_in most) result watcher.old watcher.new }
 {
     let mut judged = 0;

@@ -5,19 +5,19 @@ ghost use Rattle.someip_explore.specs.Traces.{trace_of, verdict_of};
 
 use crate::laws::verdicts_are_told;
 use someip_tp::Reassembly;
-use someip_world::{Line, Reuse, RunError, Setup, Step, run_lines};
+use someip_world::{Actors, Line, Reuse, RunError, Setup, Step};
 use someip_world_verdict::verdict_on;
 use std::alloc::{AllocError, Global};
 
 /// Runs a schedule: the lines of its trace.
 pub(crate) fn run_traced<R: Reassembly>(
-    alloc: Global,
-    setup: &Setup,
+    actors: &mut Actors<'_, R>,
     steps: &[Step],
 ) -> Result<Vec<Line>, RunError>
-    ensures { IsTraced setup.now.nodes steps.now result }
+    ensures traced { IsTraced actors.old.nodes steps.now result }
+    ensures kept { actors.new ≡ actors.old }
 {
-    run_lines::<R>(alloc, setup, steps)
+    actors.run_lines(steps)
 }
 
 /// The verdict on a schedule whose trace has these lines.

@@ -1,10 +1,12 @@
 -- Who acts at the places of a setup, and what is done there.
-use Rattle.std.specs.Prelude.{◌≡◌, Bool, true, false, List, [], ◌∷◌, Some, Result, Ok, Err}
+use Rattle.std.specs.Prelude.{◌≡◌, ℕ, Bool, true, false, List, [], ◌∷◌, Some, Result, Ok, Err}
 use Rattle.std.specs.Global.{Vec}
+use Rattle.std.specs.declared.net.ipv4_addr.Ipv4Addr.{Ipv4Addr}
+use Rattle.someip_node_rules.specs.declared.config.Config.{Config}
 use Rattle.someip_node_rules.specs.declared.error.NodeError.{NodeError}
 use Rattle.someip_node_rules.specs.declared.output.Output.{Output}
 use Rattle.someip_node_rules.specs.declared.output.Output.TheVariants.{Sent}
-use Rattle.someip_node_rules.specs.histories.History.{History, answers_of}
+use Rattle.someip_node_rules.specs.histories.History.{History, answers_of, start_of}
 use Rattle.someip_node_rules.specs.rules.Plans.{Work}
 use Rattle.someip_node_rules.specs.steps.Steps.{NodeView}
 use Rattle.someip_world.specs.declared.actor.Actor.{Actor}
@@ -19,6 +21,16 @@ use Rattle.someip_world_setup.specs.declared.setup_node.SetupNode.{SetupNode}
 abbrev pub view_of : History → NodeView
 view_of h = record { config = h.config; tables = Some (answers_of h) }
 
+-- what acts at a place: a node with a configuration, or the liar of an address
+pub data Role : Type 0 where
+  NodeOf : Config → Role
+  LiarAt : Ipv4Addr → Role
+
+-- that of a node or a liar of a configuration
+abbrev pub role_with : Bool → Config → Role
+role_with true config = LiarAt config.address
+role_with false config = NodeOf config
+
 -- (the nodes are generic over the store of messages that came in part, and nothing here looks at that)
 module _ {R : Type 0} where
   -- who acts at a place with a history: a node that stands for it, or the liar of that address
@@ -31,6 +43,16 @@ module _ {R : Type 0} where
   actors_of (n ∷ nodes) (h ∷ hs) = actor_of n.is_liar h ∷ actors_of nodes hs
   actors_of [] (h ∷ hs) = actor_of false h ∷ actors_of [] hs
   actors_of nodes [] = []
+
+  -- what acts at a place, whatever it met
+  abbrev pub role_of : Actor R → Role
+  role_of (Node view) = NodeOf view.config
+  role_of (Liar address) = LiarAt address
+
+  -- it begins again: a node with a delay
+  abbrev pub again : ℕ → Actor R → Actor R
+  again delay (Node view) = Node (view_of (start_of view.config delay))
+  again delay (Liar address) = Liar address
 
   -- what is due is given, and the actor is that of the history then; or it refuses as is due and is as it was, or memory ran out
   abbrev pub Did : Bool → History → Result (Work History) NodeError → Result (Vec Output) StepError → Actor R → Type 0

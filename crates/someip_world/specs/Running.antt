@@ -1,5 +1,5 @@
 -- What the functions of a run do with those who act in it.
-use Rattle.std.specs.Prelude.{◌≡◌, ℕ, List, Result, Ok, Err}
+use Rattle.std.specs.Prelude.{◌≡◌, ℕ, List, map, Result, Ok, Err}
 use Rattle.std.specs.Global.{Vec}
 use Rattle.std.specs.List.{AllZip}
 use Rattle.someip_node_rules.specs.trails.Copies.{IsCopy}
@@ -13,7 +13,7 @@ use Rattle.someip_world_rules.specs.declared.line.Line.{Line}
 use Rattle.someip_world_rules.specs.declared.step_fault.StepFault.{StepFault}
 use Rattle.someip_world_rules.specs.Runs.{ComesTo, World, happens, run_from}
 use Rattle.someip_world.specs.declared.actor.Actor.{Actor}
-use Rattle.someip_world.specs.Acting.{actor_of, actors_of}
+use Rattle.someip_world.specs.Acting.{Role, actor_of, actors_of, role_of, role_with}
 
 -- all steps happened, or one is bad, or memory ran out
 abbrev pub Ends : Result World RunError → Result (Unit {0}) RunError → List Line → Type 0
@@ -21,6 +21,10 @@ Ends (Ok w) (Ok _) lines = lines ≡ w.lines
 Ends (Err error) (Err (BadStep at told)) lines = error ≡ BadStep at told
 Ends due (Err OutOfMemory) lines = Unit {0}
 Ends due result lines = ⊥
+
+-- a role is that of a node of a setup: of a node with a copy of its configuration, or of a liar
+abbrev pub IsRoleOf : SetupNode → Role → Type 0
+IsRoleOf node role = (config : Config) × IsCopy node.config config × (role ≡ role_with node.is_liar config)
 
 module _ {R : Type 0} where
   -- at the places of the nodes of a setup stand those that act there, once nodes were started with their delays and with copies
@@ -31,6 +35,10 @@ module _ {R : Type 0} where
   -- so it is at all places
   abbrev pub AreStarted : List SetupNode → List (Actor R) → Type 0
   AreStarted nodes actors = AllZip IsStarted nodes actors
+
+  -- they are those of the nodes of a setup, whatever they met
+  abbrev pub AreOf : List SetupNode → List (Actor R) → Type 0
+  AreOf nodes actors = AllZip IsRoleOf nodes (map role_of actors)
 
   -- actors and lines are those of a world over the nodes of a setup
   abbrev pub AreOfWorld : List SetupNode → List (Actor R) → List Line → World → Type 0

@@ -1,8 +1,8 @@
 //! Who acts in a run: its nodes and its liars.
-ghost use Rattle.std.specs.Prelude.{◌≡◌, Bool, IfOk, IfErr};
+ghost use Rattle.std.specs.Prelude.{◌≡◌, Bool, IfOk, IfErr, OnOk};
 ghost use Rattle.someip_node_rules.specs.histories.History.{History};
 ghost use Rattle.someip_world_rules.specs.Deeds.{deed_at};
-ghost use Rattle.someip_world.specs.Acting.{Acts, actor_of};
+ghost use Rattle.someip_world.specs.Acting.{Acts, actor_of, again, role_of};
 ghost use Rattle.someip_world.specs.Running.{IsStarted};
 
 use crate::log::Log;
@@ -41,6 +41,20 @@ pub(crate) fn started<R: Reassembly>(
     }
 }
 
+/// Starts a node again, with a delay. A liar stays as it is.
+pub(crate) fn begin_again<R: Reassembly>(actor: &mut Actor<R>, delay: u32) -> Result<(), AllocError>
+    ensures again { OnOk result (actor.new ≡ again delay actor.old) }
+    ensures role { role_of actor.new ≡ role_of actor.old }
+{
+    match actor {
+        Actor::Node(node) => match node.restart(delay) {
+            Ok(()) => Ok(()),
+            Err(_) => Err(AllocError),
+        },
+        Actor::Liar(_) => Ok(()),
+    }
+}
+
 /// Does at a place what a step says, after the lines of the steps before it.
 pub(crate) fn act<R: Reassembly>(
     alloc: Global,
@@ -48,8 +62,9 @@ pub(crate) fn act<R: Reassembly>(
     log: &Log,
     step: &Step,
 ) -> Result<Vec<Output>, StepError>
-    ensures { (liar : Bool) (h : History) → actor.old ≡ actor_of liar h
+    ensures acts { (liar : Bool) (h : History) → actor.old ≡ actor_of liar h
         → Acts liar h (deed_at liar h log.now step.now) result actor.new }
+    ensures role { role_of actor.new ≡ role_of actor.old }
 {
     match actor {
         Actor::Node(node) => perform(alloc, node, log, step),

@@ -53,8 +53,9 @@ pub(crate) fn perform<R: Reassembly>(
     log: &Log,
     step: &Step,
 ) -> Result<Vec<Output>, StepError>
-    ensures { (h : History) → StandsFor node.old h
+    ensures performs { (h : History) → StandsFor node.old h
         → Performs h (deed_of h log.now step.now) result node.new }
+    ensures config { node.new.config ≡ node.old.config }
 {
     match step {
         Step::Tick { ms, .. } => tick(node, *ms),
@@ -106,7 +107,8 @@ fn given(done: Result<Vec<Output>, NodeError>) -> Result<Vec<Output>, StepError>
 
 /// Lets the node's clock go on.
 fn tick<R: Reassembly>(node: &mut Node<R>, ms: u64) -> Result<Vec<Output>, StepError>
-    ensures { (h : History) → StandsFor node.old h → Performs h (tick_deed h ms) result node.new }
+    ensures performs { (h : History) → StandsFor node.old h → Performs h (tick_deed h ms) result node.new }
+    ensures config { node.new.config ≡ node.old.config }
 {
     match node.tick(ms) {
         Err(NodeError::ClockPast) => Err(StepError::Bad(StepFault::ClockPast)),
@@ -128,8 +130,9 @@ fn deliver<R: Reassembly>(
     log: &Log,
     number: u64,
 ) -> Result<Vec<Output>, StepError>
-    ensures { (h : History) → StandsFor node.old h
+    ensures performs { (h : History) → StandsFor node.old h
         → Performs h (delivery h.config (datagram_at log.now number)) result node.new }
+    ensures config { node.new.config ≡ node.old.config }
 {
     let Some(datagram) = log.datagram(number) else {
         return Err(StepError::Bad(StepFault::NoSuchDatagram));
@@ -164,9 +167,10 @@ fn call<R: Reassembly>(
     method: MethodId,
     payload: &StepPayload,
 ) -> Result<Vec<Output>, StepError>
-    ensures { (h : History) → StandsFor node.old h → Performs h
+    ensures performs { (h : History) → StandsFor node.old h → Performs h
         (unless_long h.config payload.now (input.Call kind instance method payload.now))
         result node.new }
+    ensures config { node.new.config ≡ node.old.config }
 {
     let payload = payload_within(alloc, node.config(), payload)?;
     given(node.call(kind, instance, method.id(), payload.as_slice()))
@@ -180,9 +184,10 @@ fn answer<R: Reassembly>(
     reply: Reply,
     payload: &StepPayload,
 ) -> Result<Vec<Output>, StepError>
-    ensures { (h : History) → StandsFor node.old h → Performs h
+    ensures performs { (h : History) → StandsFor node.old h → Performs h
         (unless_long h.config payload.now (input.Answer token reply payload.now))
         result node.new }
+    ensures config { node.new.config ≡ node.old.config }
 {
     let payload = payload_within(alloc, node.config(), payload)?;
     given(node.answer(token, reply, payload.as_slice()))
@@ -196,9 +201,10 @@ fn publish<R: Reassembly>(
     event: u16,
     payload: &StepPayload,
 ) -> Result<Vec<Output>, StepError>
-    ensures { (h : History) → StandsFor node.old h → Performs h
+    ensures performs { (h : History) → StandsFor node.old h → Performs h
         (unless_long h.config payload.now (input.Publish instance event payload.now))
         result node.new }
+    ensures config { node.new.config ≡ node.old.config }
 {
     let payload = payload_within(alloc, node.config(), payload)?;
     given(node.publish(instance, event, payload.as_slice()))
@@ -213,10 +219,11 @@ fn publish_to<R: Reassembly>(
     event: u16,
     payload: &StepPayload,
 ) -> Result<Vec<Output>, StepError>
-    ensures { (h : History) → StandsFor node.old h → Performs h
+    ensures performs { (h : History) → StandsFor node.old h → Performs h
         (unless_long h.config payload.now
         (input.PublishTo eventgroup.instance eventgroup.id to event payload.now))
         result node.new }
+    ensures config { node.new.config ≡ node.old.config }
 {
     let payload = payload_within(alloc, node.config(), payload)?;
     given(node.publish_to(
@@ -234,8 +241,9 @@ fn restart<R: Reassembly>(
     node: &mut Node<R>,
     delay: u64,
 ) -> Result<Vec<Output>, StepError>
-    ensures { (h : History) → StandsFor node.old h
+    ensures performs { (h : History) → StandsFor node.old h
         → Performs h (restart_deed h.config delay) result node.new }
+    ensures config { node.new.config ≡ node.old.config }
 {
     let Some(delay) = delay_within(node.config(), delay) else {
         return Err(StepError::Bad(StepFault::BadDelay));

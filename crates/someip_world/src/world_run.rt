@@ -1,13 +1,15 @@
 //! Runs.
-ghost use Rattle.std.specs.Prelude.{◌≡◌, IfOk, IfErr};
+ghost use Rattle.std.specs.Prelude.{◌≡◌, IfOk, IfErr, map};
 ghost use Rattle.someip_world_rules.specs.exchanges.CleanReuse.{IsVerdictOn};
 ghost use Rattle.someip_world_rules.specs.Runs.{IsRun};
 ghost use Rattle.someip_world_rules.specs.Liars.{HasNoLiars};
 ghost use Rattle.someip_world_safety.specs.CleanRuns.{IsCleanWhereCountedOnce};
 ghost use Rattle.someip_world_safety.specs.Safety.{IsSafeAmongLiarsOn, IsSafeOn};
+ghost use Rattle.someip_world.specs.Acting.{role_of};
 ghost use Rattle.someip_world.specs.Running.{AreStarted, Happens, IsTold, RunsOn};
 
-use crate::actor::{Actor, act, started};
+use crate::actor::{Actor, act};
+use crate::actors::{Actors, begin_all_again};
 use crate::log::Log;
 use crate::telling::tell;
 use someip_tp::Reassembly;
@@ -16,18 +18,7 @@ use someip_world_safety::safety::{runs_are_safe_by_their_verdict, runs_that_coun
 use someip_world_schedule::Step;
 use someip_world_setup::{Setup, SetupNode};
 use someip_world_verdict::verdict_on;
-use std::alloc::{AllocError, Global};
-
-/// The nodes of a setup, each started with its delay, and its liars, each in its place.
-fn start<R: Reassembly>(alloc: Global, nodes: &[SetupNode]) -> Result<Vec<Actor<R>>, AllocError>
-    ensures { IfOk result (λ v. AreStarted nodes.now v.items) }
-{
-    let mut actors = Vec::new(alloc);
-    for node in nodes {
-        actors.push(started::<R>(alloc, node)?)?;
-    }
-    Ok(actors)
-}
+use std::alloc::Global;
 
 /// Does a step of an index, counted from 1.
 fn happen<R: Reassembly>(
@@ -38,7 +29,8 @@ fn happen<R: Reassembly>(
     index: usize,
     step: &Step,
 ) -> Result<(), RunError>
-    ensures { Happens setup.now index step.now actors.old.items log.old result actors.new.items log.new }
+    ensures happens { Happens setup.now index step.now actors.old.items log.old result actors.new.items log.new }
+    ensures roles { map role_of actors.new.items ≡ map role_of actors.old.items }
 {
     let Some(place) = place_of(setup, step.node().as_str()) else {
         return Err(RunError::BadStep(index, StepFault::UnknownNode));
@@ -58,7 +50,8 @@ fn run_all<R: Reassembly>(
     log: &mut Log,
     steps: &[Step],
 ) -> Result<(), RunError>
-    ensures { RunsOn setup.now steps.now actors.old.items log.old result log.new }
+    ensures runs { RunsOn setup.now steps.now actors.old.items log.old result log.new }
+    ensures roles { map role_of actors.new.items ≡ map role_of actors.old.items }
 {
     for (done, step) in steps.iter().enumerate() {
         happen(alloc, setup, actors, log, done + 1, step)?;
@@ -66,31 +59,47 @@ fn run_all<R: Reassembly>(
     Ok(())
 }
 
-/// Runs a schedule over nodes and liars: the lines of its trace.
+/// Runs a schedule over nodes and liars that were just started: the lines of its trace.
 fn run_nodes<R: Reassembly>(
     alloc: Global,
     setup: &[SetupNode],
+    actors: &mut Vec<Actor<R>>,
     steps: &[Step],
 ) -> Result<Vec<Line>, RunError>
-    ensures { IsTold setup.now steps.now result }
+    requires { AreStarted setup.now actors.old.items }
+    ensures told { IsTold setup.now steps.now result }
+    ensures roles { map role_of actors.new.items ≡ map role_of actors.old.items }
 {
-    let mut actors = start::<R>(alloc, setup)?;
     let mut log = Log::new(alloc);
-    match run_all(alloc, setup, &mut actors, &mut log, steps) {
+    match run_all(alloc, setup, actors, &mut log, steps) {
         Ok(()) => Ok(log.into_lines()),
         Err(error) => Err(error),
     }
 }
 
-/// Runs a schedule as [`run`] does, and gives the lines of its trace alone, without the verdict.
-pub fn run_lines<R: Reassembly>(
+impl<'s, R: Reassembly> Actors<'s, R> {
+    /// Runs a schedule as [`run`] does, and gives the lines of its trace alone, without the verdict. It is the
+    /// same whatever was run before.
+    pub fn run_lines(&mut self, steps: &[Step]) -> Result<Vec<Line>, RunError>
+        ensures told { IsTold self.old.nodes steps.now result }
+        ensures kept { self.new ≡ self.old }
+    {
+        let nodes = self.setup.nodes();
+        begin_all_again(nodes, &mut self.places)?;
+        run_nodes(self.alloc, nodes, &mut self.places, steps)
+    }
+}
+
+/// Runs a schedule over nodes and liars that are made for it: the lines of its trace.
+fn run_once<R: Reassembly>(
     alloc: Global,
     setup: &Setup,
     steps: &[Step],
 ) -> Result<Vec<Line>, RunError>
     ensures { IsTold setup.now.nodes steps.now result }
 {
-    run_nodes::<R>(alloc, setup.nodes(), steps)
+    let mut actors = Actors::<R>::of(alloc, setup)?;
+    actors.run_lines(steps)
 }
 
 /// Runs a schedule over the nodes of a setup: each node is started with its delay, and the steps happen
@@ -120,7 +129,7 @@ pub fn run<R: Reassembly>(alloc: Global, setup: &Setup, steps: &[Step]) -> Resul
     ensures counted_once { IfOk result
         (λ trace. IsCleanWhereCountedOnce setup.now.nodes steps.now trace.lines.items trace.verdict) }
 {
-    let lines = run_nodes::<R>(alloc, setup.nodes(), steps)?;
+    let lines = run_once::<R>(alloc, setup, steps)?;
     let verdict = verdict_on(alloc, setup, steps, &lines)?;
     runs_are_safe_by_their_verdict(setup, steps);
     runs_that_count_once_are_clean(setup, steps);

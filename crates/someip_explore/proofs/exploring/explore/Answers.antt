@@ -1,6 +1,8 @@
 use Rattle.std.proofs.Common.{◌≡◌, length, arith, sym, subst}
-use Rattle.someip_explore.specs.Exploring.{ExploresTo, judged_count}
+use Rattle.someip_explore.specs.Exploring.{ExploresTo, judged_count, judgement_of}
 use Rattle.someip_explore.specs.GoalViews.{goal_of}
+use Rattle.someip_explore.specs.Moves.{next_steps}
+use Rattle.someip_explore.specs.Searching.{Explores}
 use Rattle.someip_explore.specs.Watching.{HearsOf}
 use Rattle.someip_explore.proofs.ExploringLemmas.{explores_by, watched_so}
 use Rattle.someip_explore.proofs.WatchLemmas.{watched_until}
@@ -16,7 +18,8 @@ returns-clause-explored g c =
     let long : c.len.result ≡ length beginning = omega (arith, c.len.ensures, c.args.beginning.ok) in
     subst (ExploresTo nodes moves aim limits beginning) (sym c.exploration_of.ensures)
     (explores_by nodes moves aim limits beginning c.search_up_to.new.steps c.in_ok-explored.explored c.len.result c.steps.result c.schedules.result long c.steps.ensures.is c.schedules.ensures.is
-    c.in_ok-explored.ensures.explored)
+    (subst (λ network. Explores (next_steps network.nodes moves) (judgement_of network.nodes aim c.len.result) c.steps.result c.schedules.result beginning c.search_up_to.new.steps.items
+    c.in_ok-explored.explored) c.in_ok-actors.ensures c.in_ok-explored.ensures.explored))
 
 pub returns-clause-watched : goal.returns-clause-watched
 returns-clause-watched g c =

@@ -1,5 +1,6 @@
 use Rattle.std.proofs.Common.{◌≡◌, ◌-◌, length, length-append, arith, vec_len, [], ◌∷◌, ◌++◌, ap, sym, subst, ◌∙◌}
 use Rattle.std.specs.Vec.Iter.{into_iter_items}
+use Rattle.someip_explore.specs.declared.search.Ended.TheVariants as ends
 use Rattle.someip_explore.specs.Search.{longer_by}
 use Rattle.someip_explore.specs.Searching.{Comes, search_all}
 use Rattle.someip_explore.specs.Watching.{HearsOf, judged_at}
@@ -19,7 +20,12 @@ returns-in_default-clause-ended g t c =
     subst (λ o. Comes o c.in_ok-ended.ended old c.search_behind.new.steps.items)
     (sym (ap (λ xs. of_choices judge c.args.most next c.args.left old xs c.loop-step.judged) c.in-Some.ensures.steps.0) ∙ c.loop-step.invariant.left)
     (ended judge c.args.most next c.args.left old c.in-Some.step rest c.loop-step.judged c.in_ok-ended.ended c.push.new.self.items old c.search_behind.new.steps.items
-    pushed c.in_default.not-Passed c.in_ok-ended.ensures.ended)
+    pushed c.in_default.not-Passed
+    (subst (λ game. Comes (search_all (g.G.Game.comes_to game) c.args.most (longer_by (g.G.Game.goes_on game) (c.args.left - 1) c.push.new.self.items) c.loop-step.judged) c.in_ok-ended.ended
+    c.push.new.self.items c.search_behind.new.steps.items) c.loop-step.invariant.kept c.in_ok-ended.ensures.ended))
+
+pub returns-in_default-clause-kept : goal.returns-in_default-clause-kept
+returns-in_default-clause-kept g t c = c.in_ok-ended.ensures.kept ∙ c.loop-step.invariant.kept
 
 pub returns-in_default-clause-watched : goal.returns-in_default-clause-watched
 returns-in_default-clause-watched g t c first heard = c.in_ok-ended.ensures.watched first (c.loop-step.invariant.watched first heard)
@@ -44,14 +50,16 @@ loop-step-preserved-in-Passed g t c =
     let old = c.args.steps.now.items in
     let rest = into_iter_items c.next-in-loop-step.new.self in
     let pushed : c.push.new.self.items ≡ old ++ c.in-Some.step ∷ [] = c.in_ok-push.ensures.items ∙ ap (λ xs. xs ++ c.in-Some.step ∷ []) c.loop-step.invariant.same in
+    let came : Comes (search_all judge c.args.most (longer_by next (c.args.left - 1) c.push.new.self.items) c.loop-step.judged) (ends.Passed c.in-Passed.now) c.push.new.self.items c.search_behind.new.steps.items =
+    subst (λ e. Comes (search_all judge c.args.most (longer_by next (c.args.left - 1) c.push.new.self.items) c.loop-step.judged) e c.push.new.self.items c.search_behind.new.steps.items)
+    c.in-Passed.is
+    (subst (λ game. Comes (search_all (g.G.Game.comes_to game) c.args.most (longer_by (g.G.Game.goes_on game) (c.args.left - 1) c.push.new.self.items) c.loop-step.judged) c.in_ok-ended.ended
+    c.push.new.self.items c.search_behind.new.steps.items) c.loop-step.invariant.kept c.in_ok-ended.ensures.ended) in
     let did =
-    went_on judge c.args.most next c.args.left old c.in-Some.step rest c.loop-step.judged c.in-Passed.now c.push.new.self.items c.search_behind.new.steps.items
-    pushed (subst (λ e. Comes (search_all judge c.args.most (longer_by next (c.args.left - 1) c.push.new.self.items) c.loop-step.judged) e c.push.new.self.items c.search_behind.new.steps.items)
-    c.in-Passed.is c.in_ok-ended.ensures.ended) in
+    went_on judge c.args.most next c.args.left old c.in-Some.step rest c.loop-step.judged c.in-Passed.now c.push.new.self.items c.search_behind.new.steps.items pushed came in
     record {
-      within = within_most judge c.args.most (longer_by next (c.args.left - 1) c.push.new.self.items) c.loop-step.judged c.in-Passed.now c.push.new.self.items c.search_behind.new.steps.items c.loop-step.invariant.within
-          (subst (λ e. Comes (search_all judge c.args.most (longer_by next (c.args.left - 1) c.push.new.self.items) c.loop-step.judged) e c.push.new.self.items c.search_behind.new.steps.items)
-          c.in-Passed.is c.in_ok-ended.ensures.ended);
+      kept = c.in_ok-ended.ensures.kept ∙ c.loop-step.invariant.kept;
+      within = within_most judge c.args.most (longer_by next (c.args.left - 1) c.push.new.self.items) c.loop-step.judged c.in-Passed.now c.push.new.self.items c.search_behind.new.steps.items c.loop-step.invariant.within came;
       watched = λ first heard. subst (λ e. HearsOf g.W.Watcher.hears (judged_at c.args.most e) first c.search_behind.new.watcher) c.in-Passed.is
           (c.in_ok-ended.ensures.watched first (c.loop-step.invariant.watched first heard));
       same = rw (c.pop-last.ensures.rest, did.1) (taken_last c.args.steps.now.items c.in-Some.step (vec_len c.search_behind.new.steps - 1) (omega (arith, ap length did.1, length-append c.args.steps.now.items (c.in-Some.step ∷ []), c.search_behind.new.steps.ok)));

@@ -1,4 +1,4 @@
-use Rattle.std.proofs.Common.{arith, subst, sym}
+use Rattle.std.proofs.Common.{arith, subst, sym, ◌∙◌}
 use Rattle.someip_explore.specs.declared.search.Explored.TheVariants as explored
 use Rattle.someip_explore.specs.Search.{longer_by}
 use Rattle.someip_explore.specs.Searching.{Comes, Explores, search_all}
@@ -17,7 +17,9 @@ returns-in-Found-clause-explored g c =
     found_there next judge old c.args.most c.loop-count.count c.loop-count.judged here.within here.so_far c.args.longest (omega (arith, c.loop-count-test.true)) c.in-Found.now
     c.search_behind.new.steps.items
     (subst (λ e. Comes (search_all judge c.args.most (longer_by next c.loop-count.count old) c.loop-count.judged) e old c.search_behind.new.steps.items) c.in-Found.is
-    (subst (λ xs. Comes (search_all judge c.args.most (longer_by next c.loop-count.count xs) c.loop-count.judged) c.in_ok-now.field-0 xs c.search_behind.new.steps.items) here.same c.in_ok-now.ensures.ended))
+    (subst (λ xs. Comes (search_all judge c.args.most (longer_by next c.loop-count.count xs) c.loop-count.judged) c.in_ok-now.field-0 xs c.search_behind.new.steps.items) here.same
+    (subst (λ game. Comes (search_all (g.G.Game.comes_to game) c.args.most (longer_by (g.G.Game.goes_on game) c.loop-count.count c.loop-count.steps.items) c.loop-count.judged) c.in_ok-now.field-0
+    c.loop-count.steps.items c.search_behind.new.steps.items) here.kept c.in_ok-now.ensures.ended)))
 
 -- src/search.rt:124:28
 pub returns-in-Full-clause-explored : goal.returns-in-Full-clause-explored
@@ -30,7 +32,9 @@ returns-in-Full-clause-explored g c =
     (full_there next judge old c.args.most c.loop-count.count c.loop-count.judged here.within here.so_far c.args.longest (omega (arith, c.loop-count-test.true)) c.requires.most
     c.search_behind.new.steps.items c.search_behind.new.steps.items
     (subst (λ e. Comes (search_all judge c.args.most (longer_by next c.loop-count.count old) c.loop-count.judged) e old c.search_behind.new.steps.items) c.in-Full.is
-    (subst (λ xs. Comes (search_all judge c.args.most (longer_by next c.loop-count.count xs) c.loop-count.judged) c.in_ok-now.field-0 xs c.search_behind.new.steps.items) here.same c.in_ok-now.ensures.ended)))
+    (subst (λ xs. Comes (search_all judge c.args.most (longer_by next c.loop-count.count xs) c.loop-count.judged) c.in_ok-now.field-0 xs c.search_behind.new.steps.items) here.same
+    (subst (λ game. Comes (search_all (g.G.Game.comes_to game) c.args.most (longer_by (g.G.Game.goes_on game) c.loop-count.count c.loop-count.steps.items) c.loop-count.judged) c.in_ok-now.field-0
+    c.loop-count.steps.items c.search_behind.new.steps.items) here.kept c.in_ok-now.ensures.ended))))
 
 -- src/search.rt:120:5
 pub loop-count-preserved : goal.loop-count-preserved
@@ -42,8 +46,11 @@ loop-count-preserved g c =
     let on =
     passed_on next judge old c.args.most c.loop-count.count c.loop-count.judged here.within here.so_far c.in-Passed.now c.search_behind.new.steps.items
     (subst (λ e. Comes (search_all judge c.args.most (longer_by next c.loop-count.count old) c.loop-count.judged) e old c.search_behind.new.steps.items) c.in-Passed.is
-    (subst (λ xs. Comes (search_all judge c.args.most (longer_by next c.loop-count.count xs) c.loop-count.judged) c.in_ok-now.field-0 xs c.search_behind.new.steps.items) here.same c.in_ok-now.ensures.ended)) in
+    (subst (λ xs. Comes (search_all judge c.args.most (longer_by next c.loop-count.count xs) c.loop-count.judged) c.in_ok-now.field-0 xs c.search_behind.new.steps.items) here.same
+    (subst (λ game. Comes (search_all (g.G.Game.comes_to game) c.args.most (longer_by (g.G.Game.goes_on game) c.loop-count.count c.loop-count.steps.items) c.loop-count.judged) c.in_ok-now.field-0
+    c.loop-count.steps.items c.search_behind.new.steps.items) here.kept c.in_ok-now.ensures.ended))) in
     record {
+      kept = c.in_ok-now.ensures.kept ∙ here.kept;
       same = on.2;
       within = on.1;
       covered = omega arith;

@@ -1,5 +1,5 @@
 use Rattle.someip_explore.proofs.ExploringLemmas.{traced_so}
 use Rattle.someip_explore.proofs.traced.run_traced.Goals as goal
 
-pub returns : goal.returns
-returns g c = traced_so c.args.setup.now.nodes c.args.steps.now c.run_lines.result c.run_lines.ensures
+pub returns-clause-traced : goal.returns-clause-traced
+returns-clause-traced g c = traced_so c.args.actors.now.nodes c.args.steps.now c.run_lines.result c.run_lines.ensures.told

@@ -1,5 +1,5 @@
 use Rattle.someip_world.proofs.RunLemmas.{more_started}
-use Rattle.someip_world.proofs.world_run.start.Goals as goal
+use Rattle.someip_world.proofs.actors.start_all.Goals as goal
 
 pub loop-node-preserved : goal.loop-node-preserved
 loop-node-preserved g c =

@@ -1,6 +1,6 @@
 use Rattle.std.proofs.Common.{take}
 use Rattle.someip_world.specs.Running.{AreStarted}
-use Rattle.someip_world.proofs.world_run.start.Given as goal
+use Rattle.someip_world.proofs.actors.start_all.Given as goal
 
 -- those so far are started
 abbrev pub invariant-loop-node : goal.invariant-loop-node
