@@ -5,12 +5,16 @@
 Each search is drawn from its seed: a setup of examples/runs, steps that all schedules begin with, moves, a goal, and
 limits. The model tries the schedules one by one, shorter ones first, each by a call of `run`, and judges its trace by
 its words. The answer of `explore`, its status and its count have to be those of the model.
+
+One more search judges 100,000 schedules in 10 MB of address space, of which the program takes half before the first:
+so no schedule may leave as much as 50 bytes.
 """
 import argparse
 import concurrent.futures
 import os
 import random
 import re
+import resource
 import subprocess
 import sys
 import tempfile
@@ -21,6 +25,9 @@ RUNS = ROOT / "examples" / "runs"
 COUNT = 40
 # The most schedules that the model tries for one search.
 ROOM = 400
+# How many schedules the long search judges, and in how much memory.
+MANY = 100_000
+KILOBYTES = 10_000
 
 KNOWN = ["tick a 10", "deliver 1 b"]
 SUBSCRIBED = [*KNOWN, "subscribe b 1111.0001 0001", "deliver 2 a", "deliver 3 b"]
@@ -186,6 +193,19 @@ def tried(program, seed):
     return model.tried, kind, f"search {seed}: {told} with status {ended} {error.strip()}, not {text} with {status}"
 
 
+def is_long_search_bounded(program):
+    """Whether the memory of a search does not grow with its schedules."""
+    def limit():
+        resource.setrlimit(resource.RLIMIT_AS, (KILOBYTES * 1024, KILOBYTES * 1024))
+
+    with tempfile.TemporaryDirectory() as room:
+        moves = Path(room, "moves")
+        moves.write_text("\n".join(move for move in MOVES if "restart" not in move) + "\n")
+        words = [program, "explore", "--most", str(MANY), str(RUNS / "two.toml"), str(moves), "b event ff"]
+        done = subprocess.run(words, capture_output=True, text=True, check=False, preexec_fn=limit)
+    return re.fullmatch(f"none of up to . steps, stopped after {MANY} schedules\n", done.stdout) is not None
+
+
 def main():
     parser = argparse.ArgumentParser()
     parser.add_argument("program")
@@ -196,6 +216,7 @@ def main():
     with concurrent.futures.ThreadPoolExecutor(os.cpu_count()) as pool:
         all_of = list(pool.map(lambda seed: tried(words.program, seed), seeds))
     findings = [wrong for _, _, wrong in all_of if wrong]
+    findings += [] if is_long_search_bounded(words.program) else [f"no search of {MANY} schedules in {KILOBYTES} KB"]
     kinds = [kind for _, kind, _ in all_of if kind]
     findings += [f"no search is {kind}" for kind in ("found", "none", "stopped") if kind not in kinds]
     counts = ", ".join(f"{kinds.count(kind)} {kind}" for kind in ("found", "none", "stopped"))
