@@ -1,3 +1,4 @@
 pub mod SlotLemmas
+pub mod KeysAtLemmas
 pub mod OwnerLemmas
 pub mod PlaceLemmas

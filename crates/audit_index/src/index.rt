@@ -1,6 +1,8 @@
 //! Keys at their places.
-ghost use Rattle.std.specs.Prelude.{◌≡◌, ◌<◌, ◌≤◌, IfSome, IfNone, OnErr, OnOk, Some, if◌then◌else◌, length, true, false};
-ghost use Rattle.audit_index.specs.Slots.{is_same_slot, stands};
+ghost use Rattle.std.specs.Prelude.{◌≡◌, ◌<◌, ◌≤◌, ◌++◌, IfOk, IfSome, IfNone, OnErr, OnOk, Some, if◌then◌else◌, length, true, false};
+ghost use Rattle.std.specs.List.Sorted.{IsStrictlySortedBy};
+ghost use Rattle.std.specs.Option.{option_to_list};
+ghost use Rattle.audit_index.specs.Slots.{is_same_slot, keys_at, stands};
 
 use crate::slot::Slot;
 use someip_tables::{Key, is_same_key};
@@ -71,6 +73,23 @@ impl<P: Key, K: Key> Index<P, K> {
         }
     }
 
+    /// The keys at a place, by rising key. It looks at no other place, and takes memory only where there are any.
+    pub fn keys_at(&self, alloc: Global, place: P) -> Result<Vec<K>, AllocError>
+        ensures keys { IfOk result (λ keys. keys.items ≡ keys_at P.cmp place self.now) }
+        ensures rises { IfOk result (λ keys. IsStrictlySortedBy K.cmp keys.items) }
+    {
+        let mut keys = Vec::new(alloc);
+        let begin = Slot { place, key: None };
+        let range = (Bound::Excluded(begin), Bound::Unbounded);
+        for slot in self.slots.range(range) {
+            if !is_same_key(&slot.place, &place) {
+                return Ok(keys);
+            }
+            push_some(&mut keys, slot.key)?;
+        }
+        Ok(keys)
+    }
+
     /// Takes the first key from a place, and tells it. Whoever asks until there is none has asked once for
     /// each key that was there, and once more. It takes no memory.
     pub fn take(&mut self, place: P) -> Option<K>
@@ -85,6 +104,16 @@ impl<P: Key, K: Key> Index<P, K> {
         self.slots.remove(&slot(place, key));
         Some(key)
     }
+}
+
+/// Appends a key, if there is one.
+fn push_some<K: Key>(keys: &mut Vec<K>, key: Option<K>) -> Result<(), AllocError>
+    ensures { OnOk result (keys.new.items ≡ keys.old.items ++ option_to_list key) }
+{
+    if let Some(key) = key {
+        keys.push(key)?;
+    }
+    Ok(())
 }
 
 /// A key at a place.

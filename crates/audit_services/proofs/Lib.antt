@@ -1,0 +1,5 @@
+
+pub mod EntryLemmas
+pub mod PlaceLemmas
+pub mod BookLemmas
+pub mod TimelineLemmas

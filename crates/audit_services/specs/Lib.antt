@@ -1,0 +1,5 @@
+pub mod Stays
+pub mod Places
+pub mod Books
+pub mod Timelines
+

@@ -1,0 +1,21 @@
+//! Who offered what in a recording and when, and which client was subscribed to what.
+//!
+//! - [`Intervals`]: what stands under keys, and the intervals of what ended; [`Ended`], [`Interval`], [`Since`],
+//!   [`Why`]; [`Placed`]: at which places a key is, which end what is there;
+//! - [`laws`]: which intervals a history has.
+//!
+//! How it is kept. What stands is in order, with its deadlines beside it. The keys of a place are found without a
+//! look at the rest, so a reboot costs what it ends.
+#![tactic(auto)]
+
+mod intervals;
+pub mod laws;
+mod placed;
+mod stay;
+mod table;
+mod why;
+
+pub use intervals::Intervals;
+pub use placed::Placed;
+pub use stay::{Ended, Interval, Since};
+pub use why::Why;
