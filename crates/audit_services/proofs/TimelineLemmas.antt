@@ -1,5 +1,5 @@
 -- At each moment just what stood is covered by an interval.
-use Rattle.std.proofs.Common.{◌≡◌, ◌⊎◌, inl, inr, ℕ, ◌+◌, ◌*◌, ◌<◌, ◌≤◌, nat_le, nat_lt, nat_eq, ◌&&◌, Bool, true, false, not, cond, List, [], ◌∷◌, ◌++◌, filter, map, Option, None, Some, refl, ap, sym, subst, ◌∙◌, arith}
+use Rattle.std.proofs.Common.{◌≡◌, ◌⊎◌, inl, inr, ℕ, suc, ◌+◌, ◌*◌, ◌<◌, ◌≤◌, nat_le, nat_lt, nat_eq, ◌&&◌, Bool, true, false, not, cond, List, [], ◌∷◌, ◌++◌, filter, map, Option, None, Some, refl, ap, sym, subst, ◌∙◌, arith}
 use Rattle.std.specs.Option.{option_map, option_to_list}
 use Rattle.std.specs.declared.cmp.Ordering.{Ordering}
 use Rattle.std.specs.Ordering.{eq_by_cmp}
@@ -30,14 +30,14 @@ not_le : (a b : ℕ) → nat_le a b ≡ false → b < a
 not_le a b no_le = by (leb_tells a b)
   where
     by : ((nat_le a b ≡ true) × (a ≤ b)) ⊎ ((nat_le a b ≡ false) × (b < a)) → b < a
-    by (inl yes) = absurd (let y = yes.0 in cc)
-    by (inr no_more) = no_more.1
+    by (inl both) = absurd (let is = both.0 in cc)
+    by (inr both) = both.1
 
 lt_true : (a b : ℕ) → a < b → nat_lt a b ≡ true
-lt_true a b lt = le-leb (a + 1) b (omega (arith, lt))
+lt_true a b lt = le-leb (suc a) b (omega (arith, lt))
 
 lt_false : (a b : ℕ) → b ≤ a → nat_lt a b ≡ false
-lt_false a b le = le_false (a + 1) b (omega (arith, le))
+lt_false a b le = le_false (suc a) b (omega (arith, le))
 
 -- ---- lists of intervals, by what they cover
 
@@ -214,14 +214,14 @@ ended_before {V} C at now change before le = cases change before
 
 none_since : {V : Type 0} (C : V → V → Ordering) (changes : List (Changed V)) (now : ℕ) → AreInOrder changes now → covering now (ended_in C changes) ≡ []
 none_since C [] now order = refl
-none_since C (one ∷ earlier) now order =
+none_since {V} C (one ∷ earlier) now order =
     let stood = standing_in C earlier in
     covering-append now (ended_in C earlier) (expired_by one.at stood ++ ended_by C one.at one.change (unless_passed one.at stood))
     ∙ ap (λ vs. vs ++ covering now (expired_by one.at stood ++ ended_by C one.at one.change (unless_passed one.at stood))) (none_since C earlier now (sooner earlier order.1 order.0))
     ∙ covering-append now (expired_by one.at stood) (ended_by C one.at one.change (unless_passed one.at stood))
     ∙ ap (λ vs. vs ++ covering now (ended_by C one.at one.change (unless_passed one.at stood))) (expired_before one.at now stood order.0) ∙ ended_before C one.at now one.change (unless_passed one.at stood) order.0
   where
-    sooner : (changes : List (Changed _)) → AreInOrder changes one.at → one.at ≤ now → AreInOrder changes now
+    sooner : (changes : List (Changed V)) → AreInOrder changes one.at → one.at ≤ now → AreInOrder changes now
     sooner [] order le = tt
     sooner (first ∷ others) order le = let at = order.0 in (omega (arith, at, le), order.1)
 
@@ -260,7 +260,7 @@ began_by {V} C (one ∷ earlier) now order = after one.change (unless_passed one
 pub what_stood_is_covered : {V : Type 0} (C : V → V → Ordering) (exact : IsAntisymmetric C) (changes : List (Changed V)) (end now : ℕ) → AreInOrder changes end → now < end
     → covering now (intervals_of C changes end) ≡ option_to_list (stood_at C changes now)
 what_stood_is_covered C exact [] end now order lt = refl
-what_stood_is_covered {V} C exact (one ∷ earlier) end now order lt = cases (nat_le one.at now) refl
+what_stood_is_covered {V} C exact (one ∷ earlier) end now order lt = cases (what_stood_is_covered C exact earlier one.at now order.1) (nat_le one.at now) refl
   where
     stood : Option (Stay V)
     stood = standing_in C earlier
@@ -273,13 +273,13 @@ what_stood_is_covered {V} C exact (one ∷ earlier) end now order lt = cases (na
         by true = refl
         by false = refl
 
-    cases : (b : Bool) → nat_le one.at now ≡ b
+    cases : (now < one.at → covering now (intervals_of C earlier one.at) ≡ option_to_list (stood_at C earlier now)) → (b : Bool) → nat_le one.at now ≡ b
         → covering now (intervals_of C (one ∷ earlier) end) ≡ option_to_list (option_map (λ (stay : Stay V). stay.value.value) (unless_passed now (standing_in C (cond b (one ∷ earlier) (changes_until now earlier)))))
-    cases true is =
+    cases rest true is =
         let here : AreInOrder (one ∷ earlier) now = (leb-true one.at now is, order.1) in
         covering-append now (ended_in C (one ∷ earlier)) (ended_later end (standing_in C (one ∷ earlier))) ∙ ap (λ vs. vs ++ covering now (ended_later end (standing_in C (one ∷ earlier)))) (none_since C (one ∷ earlier) now here)
         ∙ now_stands (standing_in C (one ∷ earlier)) (began_by C (one ∷ earlier) now here)
-    cases false is =
+    cases rest false is =
         let sooner : now < one.at = not_le one.at now is in
         let before = unless_passed one.at stood in
         let later = ended_by C one.at one.change before ++ ended_later end (stands_after C one.at one.change before) in
@@ -289,4 +289,4 @@ what_stood_is_covered {V} C exact (one ∷ earlier) end now order lt = cases (na
         ∙ ap (λ vs. covering now (ended_in C earlier) ++ vs) (covering-append now (expired_by one.at stood) later
         ∙ ap (λ vs. covering now (expired_by one.at stood) ++ vs) (one_more C exact now one.at end one.change before sooner order.0 (left_at one.at stood))
         ∙ sym (covering-append now (expired_by one.at stood) (option_to_list (option_map (interval_of Open one.at) before))))
-        ∙ sym (covering-append now (ended_in C earlier) (ended_later one.at stood)) ∙ what_stood_is_covered C exact earlier one.at now order.1 sooner
+        ∙ sym (covering-append now (ended_in C earlier) (ended_later one.at stood)) ∙ rest sooner
