@@ -3,3 +3,4 @@ pub mod EntryLemmas
 pub mod PlaceLemmas
 pub mod BookLemmas
 pub mod TimelineLemmas
+pub mod HistoryLemmas

@@ -26,7 +26,7 @@ le_false a b lt = cases (nat_le a b) refl
     cases false is = refl
     cases true is = let le = leb-true a b is in absurd (omega (arith, lt, le))
 
-not_le : (a b : ℕ) → nat_le a b ≡ false → b < a
+pub not_le : (a b : ℕ) → nat_le a b ≡ false → b < a
 not_le a b no_le = by (leb_tells a b)
   where
     by : ((nat_le a b ≡ true) × (a ≤ b)) ⊎ ((nat_le a b ≡ false) × (b < a)) → b < a
