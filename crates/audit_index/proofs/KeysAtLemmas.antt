@@ -43,6 +43,7 @@ module _ {P K : Type 0} {Q : P → P → Ordering} (o : IsTotalOrder Q) (exact :
     where
       after : List (Slot P K) → List (Slot P K)
       after = filter (λ slot. is_lt (slot_cmp Q R (begin place) slot) && true)
+
       cases : (b : Bool) → is_lt (slot_cmp Q R (begin place) slot) ≡ b → keys_at Q place (after slots) ≡ keys_at Q place slots
           → keys_at Q place (cond (b && true) (slot ∷ after slots) (after slots)) ≡ one_at Q place slot ++ keys_at Q place slots
       cases true is rest = ap (λ ks. one_at Q place slot ++ ks) rest
@@ -55,12 +56,14 @@ module _ {P K : Type 0} {Q : P → P → Ordering} (o : IsTotalOrder Q) (exact :
       less Less e = refl
       less Equal e = absurd (cc)
       less Greater e = absurd (cc)
+
       all : (slots : List (Slot P K)) → AllByRecursion (λ slot. slot_cmp Q R (begin place) slot ≡ Less) (filter (λ slot. is_lt (slot_cmp Q R (begin place) slot) && true) slots)
       all [] = tt
       all (slot ∷ slots) = cases (is_lt (slot_cmp Q R (begin place) slot)) refl (all slots)
         where
           after : List (Slot P K)
           after = filter (λ slot. is_lt (slot_cmp Q R (begin place) slot) && true) slots
+
           cases : (b : Bool) → is_lt (slot_cmp Q R (begin place) slot) ≡ b → AllByRecursion (λ slot. slot_cmp Q R (begin place) slot ≡ Less) after
               → AllByRecursion (λ slot. slot_cmp Q R (begin place) slot ≡ Less) (cond (b && true) (slot ∷ after) after)
           cases true is rest = (less _ is, rest)

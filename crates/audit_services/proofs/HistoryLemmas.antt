@@ -137,7 +137,6 @@ module _ {K V : Type 0} {R : K → K → Ordering} (o : IsTotalOrder R) (exact :
   all_gone Q C places now zero book left told expires =
       (expires.2 ∙ ap (λ s. the_book R book.limit s book.told_full) (sym (unexpired_all now book.stays expires.0)), λ key. ap (intervals_under R key) expires.1 ∙ sym (cases key (get book.stays key) refl))
     where
-
       cases : (key : K) (v : Option (Stay V)) → get book.stays key ≡ v → expired_by now v ≡ []
       cases key None found = refl
       cases key (Some stay) found = by stay.until (none_passed now book.stays key stay expires.0 found)
@@ -149,14 +148,13 @@ module _ {K V : Type 0} {R : K → K → Ordering} (o : IsTotalOrder R) (exact :
       let gone = all_gone Q C places now count (record book { stays = unexpired at book.stays }) left later rest in (
         gone.0 ∙ ap (λ s. the_book R book.limit s book.told_full) (unexpired_twice at now book.stays le),
         λ key.
-        ap (intervals_under R key) is ∙ under-append R key (all_ended Expired at (expired at book.stays)) later ∙ ap (λ xs. xs ++ intervals_under R key later) (under_all Expired at key (expired at book.stays))
-        ∙ ap (λ xs. option_to_list (option_map (interval_of Expired at) (get (expired at book.stays) key)) ++ xs) (gone.1 key)
-        ∙ ap (λ v. option_to_list (option_map (interval_of Expired at) v) ++ expired_by now (get (unexpired at book.stays) key)) (get-retain o exact book.stays (λ _ lasting. has_passed at lasting.until) key)
-        ∙ ap (λ v. option_to_list (option_map (interval_of Expired at) (kept_if (λ lasting. has_passed at lasting.until) (get book.stays key))) ++ expired_by now v) (get-retain o exact book.stays (λ _ lasting. not (has_passed at lasting.until)) key)
-        ∙ cases key (get book.stays key) refl,
+            ap (intervals_under R key) is ∙ under-append R key (all_ended Expired at (expired at book.stays)) later ∙ ap (λ xs. xs ++ intervals_under R key later) (under_all Expired at key (expired at book.stays))
+            ∙ ap (λ xs. option_to_list (option_map (interval_of Expired at) (get (expired at book.stays) key)) ++ xs) (gone.1 key)
+            ∙ ap (λ v. option_to_list (option_map (interval_of Expired at) v) ++ expired_by now (get (unexpired at book.stays) key)) (get-retain o exact book.stays (λ _ lasting. has_passed at lasting.until) key)
+            ∙ ap (λ v. option_to_list (option_map (interval_of Expired at) (kept_if (λ lasting. has_passed at lasting.until) (get book.stays key))) ++ expired_by now v) (get-retain o exact book.stays (λ _ lasting. not (has_passed at lasting.until)) key)
+            ∙ cases key (get book.stays key) refl,
       )
     where
-
       cases : (key : K) (v : Option (Stay V)) → get book.stays key ≡ v
           → option_to_list (option_map (interval_of Expired at) (kept_if (λ lasting. has_passed at lasting.until) v)) ++ expired_by now (kept_if (λ lasting. not (has_passed at lasting.until)) v) ≡ expired_by now v
       cases key None found = refl
@@ -191,9 +189,11 @@ module _ {K V : Type 0} {R : K → K → Ordering} (o : IsTotalOrder R) (exact :
             → (cond b (the_book R book.limit (finite.insert book.stays one (begun C now value ttl (get book.stays one))) book.told_full) (the_book R book.limit book.stays true)).told_full ≡ false
             → IsShownBy now (KeyBegins one value ttl) book key
         room true is full =
-            rw is
-            (get-insert o book.stays one (begun C now value ttl (get book.stays one)) key ∙ after (eq_by_cmp R key one) refl,
-            told (eq_by_cmp R key one) refl (is_same C value (get book.stays one)) refl, full)
+            rw is (
+              get-insert o book.stays one (begun C now value ttl (get book.stays one)) key ∙ after (eq_by_cmp R key one) refl,
+              told (eq_by_cmp R key one) refl (is_same C value (get book.stays one)) refl,
+              full,
+            )
           where
             after : (t : Bool) → eq_by_cmp R key one ≡ t → cond t (Some (begun C now value ttl (get book.stays one))) (get book.stays key) ≡ stands_after C now (cond t (Begins value ttl) Leaves) (get book.stays key)
             after true same = ap (λ k. Some (begun C now value ttl (get book.stays k))) (sym (same_by_test exact key one same))
@@ -208,26 +208,29 @@ module _ {K V : Type 0} {R : K → K → Ordering} (o : IsTotalOrder R) (exact :
             told false other true s = refl
             told false other false s = under_one Moved now key one (get book.stays one) ∙ rw other refl
         room false is full = absurd (cc)
-
     shown_by now (KeyEnds one why) book key full =
         (get-remove o book.stays one key ∙ after (eq_by_cmp R key one), under_one why now key one (get book.stays one) ∙ told (eq_by_cmp R key one) refl, full)
       where
         after : (t : Bool) → cond t None (get book.stays key) ≡ stands_after C now (cond t (Ends why) Leaves) (get book.stays key)
         after true = refl
         after false = refl
+
         told : (t : Bool) → eq_by_cmp R key one ≡ t → cond t (option_to_list (option_map (interval_of why now) (get book.stays one))) [] ≡ ended_by C now (cond t (Ends why) Leaves) (get book.stays key)
         told true same = ap (λ k. option_to_list (option_map (interval_of why now) (get book.stays k))) (sym (same_by_test exact key one same))
         told false other = refl
-    shown_by now (PlaceEnds place why) book key full =
-        (get-retain o exact book.stays (λ k _. not (is_among Q place (places k))) key ∙ after (is_among Q place (places key)) (get book.stays key),
-        under_all why now key (retain book.stays (λ k _. is_among Q place (places k))) ∙ ap (λ v. option_to_list (option_map (interval_of why now) v)) (get-retain o exact book.stays (λ k _. is_among Q place (places k)) key)
-        ∙ told (is_among Q place (places key)) (get book.stays key), full)
+    shown_by now (PlaceEnds place why) book key full = (
+      get-retain o exact book.stays (λ k _. not (is_among Q place (places k))) key ∙ after (is_among Q place (places key)) (get book.stays key),
+      under_all why now key (retain book.stays (λ k _. is_among Q place (places k))) ∙ ap (λ v. option_to_list (option_map (interval_of why now) v)) (get-retain o exact book.stays (λ k _. is_among Q place (places k)) key)
+          ∙ told (is_among Q place (places key)) (get book.stays key),
+      full,
+    )
       where
         after : (t : Bool) (v : Option (Stay V)) → kept_if (λ _. not t) v ≡ stands_after C now (cond t (Ends why) Leaves) v
         after true None = refl
         after true (Some stay) = refl
         after false None = refl
         after false (Some stay) = refl
+
         told : (t : Bool) (v : Option (Stay V)) → option_to_list (option_map (interval_of why now) (kept_if (λ _. t) v)) ≡ ended_by C now (cond t (Ends why) Leaves) v
         told true None = refl
         told true (Some stay) = refl
@@ -241,6 +244,7 @@ module _ {K V : Type 0} {R : K → K → Ordering} (o : IsTotalOrder R) (exact :
         after true (Some stay) = refl
         after false None = refl
         after false (Some stay) = refl
+
         told : (t : Bool) → [] ≡ ended_by C now (cond t (GoesOn ttl) Leaves) (get book.stays key)
         told true = refl
         told false = refl
@@ -262,7 +266,7 @@ module _ {K V : Type 0} {R : K → K → Ordering} (o : IsTotalOrder R) (exact :
         ap (λ (b : Book R V). get b.stays key) left_is.0 ∙ get-retain o exact was.stays (λ _ lasting. not (has_passed event.at lasting.until)) key ∙ ap (unless_passed event.at) rest.0 in (
           ap (λ (b : Book R V). get b.stays key) after ∙ by.0 ∙ ap (stands_after C event.at (change_of Q R C places event.shown key)) stood,
           ap (intervals_under R key) is ∙ under-append R key before (gone ++ told_by Q R C places event.at event.shown left)
-          ∙ ap (λ xs. intervals_under R key before ++ xs) (under-append R key gone (told_by Q R C places event.at event.shown left) ∙ ap (λ xs. xs ++ intervals_under R key (told_by Q R C places event.at event.shown left)) (left_is.1 key ∙ ap (expired_by event.at) rest.0)
-          ∙ ap (λ xs. expired_by event.at (standing_in C (timeline Q R C places earlier key)) ++ xs) (by.1 ∙ ap (ended_by C event.at (change_of Q R C places event.shown key)) stood))
-          ∙ ap (λ xs. xs ++ (expired_by event.at (standing_in C (timeline Q R C places earlier key)) ++ ended_by C event.at (change_of Q R C places event.shown key) (unless_passed event.at (standing_in C (timeline Q R C places earlier key))))) rest.1,
+              ∙ ap (λ xs. intervals_under R key before ++ xs) (under-append R key gone (told_by Q R C places event.at event.shown left) ∙ ap (λ xs. xs ++ intervals_under R key (told_by Q R C places event.at event.shown left)) (left_is.1 key ∙ ap (expired_by event.at) rest.0)
+              ∙ ap (λ xs. expired_by event.at (standing_in C (timeline Q R C places earlier key)) ++ xs) (by.1 ∙ ap (ended_by C event.at (change_of Q R C places event.shown key)) stood))
+              ∙ ap (λ xs. xs ++ (expired_by event.at (standing_in C (timeline Q R C places earlier key)) ++ ended_by C event.at (change_of Q R C places event.shown key) (unless_passed event.at (standing_in C (timeline Q R C places earlier key))))) rest.1,
         )

@@ -1,4 +1,3 @@
-
 pub mod EntryLemmas
 pub mod PlaceLemmas
 pub mod BookLemmas

@@ -3,4 +3,8 @@ pub mod Places
 pub mod Books
 pub mod Timelines
 pub mod Histories
-
+pub mod Examples
+pub mod OfferedKeys
+pub mod OfferedOrder
+pub mod SubscribedKeys
+pub mod SubscribedOrder

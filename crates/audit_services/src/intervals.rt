@@ -108,10 +108,17 @@ impl<P: Key, K: Placed<P>, V: Key> Intervals<P, K, V> {
     }
 
     /// All that stands at a place goes on until a TTL in seconds has passed. It looks at these alone.
-    pub fn renew(&mut self, alloc: Global, now: Moment, place: P, ttl: u32) -> Result<(), AllocError>
+    pub fn renew(
+        &mut self,
+        alloc: Global,
+        now: Moment,
+        place: P,
+        ttl: u32,
+    ) -> Result<(), AllocError>
         ensures { OnOk result (book_of K.cmp self.new ≡ after_renewed P.cmp K.places now place ttl (book_of K.cmp self.old)) }
     {
-        self.table.renew_at(alloc, place, Deadline::after_ttl(now, ttl))
+        self.table
+            .renew_at(alloc, place, Deadline::after_ttl(now, ttl))
     }
 
     /// What expires first ends, if its deadline has come: all that has the first deadline, by rising key. Says

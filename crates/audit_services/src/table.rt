@@ -230,11 +230,7 @@ impl<P: Key, K: Placed<P>, V: Copy> Table<P, K, V> {
     }
 
     /// Appends the intervals of all that stands, by rising key.
-    pub(crate) fn tell_open(
-        &self,
-        at: u64,
-        ended: &mut Vec<Ended<K, V>>,
-    ) -> Result<(), AllocError>
+    pub(crate) fn tell_open(&self, at: u64, ended: &mut Vec<Ended<K, V>>) -> Result<(), AllocError>
         ensures ok { OnOk result (ended.new.items ≡ ended.old.items
             ++ all_ended Why.Open at (map_of K.cmp self.now)) }
         ensures err { OnErr result (IsBegun ended.old.items ended.new.items

@@ -27,5 +27,5 @@ returns g c =
       ),
       c.in_ok-expire.ensures.ok ∙ ap (λ k. c.args.ended.now.items ++ all_ended Expired moment (expired moment (map_of g.K.Ord.cmp (entries k)))) c.self.view_is,
       ap (λ (s : Stays g.K.Ord.cmp g.row.V.Denot). the_book g.K.Ord.cmp c.self.inside.room.limit s c.self.inside.room.told_full) c.in_ok-expire.ensures.left
-      ∙ ap (λ k. the_book g.K.Ord.cmp k.limit (unexpired moment (map_of g.K.Ord.cmp (entries k))) k.told_full) c.self.view_is,
+          ∙ ap (λ k. the_book g.K.Ord.cmp k.limit (unexpired moment (map_of g.K.Ord.cmp (entries k))) k.told_full) c.self.view_is,
     )
