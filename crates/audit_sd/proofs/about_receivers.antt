@@ -5,3 +5,4 @@ pub mod HistoryLemmas
 pub mod ToldLemmas
 pub mod LimitLemmas
 pub mod FullLemmas
+pub mod NotedLemmas

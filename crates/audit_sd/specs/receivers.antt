@@ -6,3 +6,4 @@ pub mod ReceiverHistories
 pub mod ReceiverExamples
 pub mod ReceiverPlaces
 pub mod PlaceOrder
+pub mod NotedEvents

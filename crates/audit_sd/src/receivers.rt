@@ -9,6 +9,7 @@
 //! - [`laws`]: what the definitions behind the contracts promise.
 //!
 //! What stands is in `standing`, which finds it by its `places`; several subscriptions end at once in `ending`.
+//! What was told is in `told_events`, and found by where it went in `untelling`.
 
 mod delivery;
 mod ending;
@@ -20,6 +21,8 @@ mod places;
 mod receiver_book;
 mod standing;
 mod steps;
+mod told_events;
+mod untelling;
 
 pub use delivery::Delivery;
 pub use entry::{ReceiverEntry, WithdrawnOffer};

@@ -11,12 +11,11 @@ use crate::receivers::delivery::Delivery;
 use crate::receivers::entry::{ReceiverEntry, WithdrawnOffer};
 use crate::receivers::finding::Finding;
 use crate::receivers::standing::Standing;
-use crate::receivers::steps::{
-    Told, acknowledge, has_room, is_silent, is_told, may_hold, note, subscribe, untell,
-};
+use crate::receivers::steps::{acknowledge, is_silent, may_hold, subscribe};
+use crate::receivers::told_events::ToldEvents;
 use crate::subscriptions::{EntryKind, SubscriptionKey};
 use someip_tables::Moment;
-use someip_tables::hashed::{KeySet, Room};
+use someip_tables::hashed::Room;
 use std::alloc::{AllocError, Global};
 use std::collections::BTreeSet;
 use std::marker::Model;
@@ -28,13 +27,12 @@ pub struct ReceiverBook {
     room: Room,
     settled: Moment,
     standing: Standing,
-    told: Told,
+    told: ToldEvents,
 }
 
 impl Model for ReceiverBook {
     ghost use Rattle.someip_tables.specs.Tables.{map_of};
     ghost use Rattle.audit_sd.specs.subscriptions.SubscriptionKeys.{subscription_cmp};
-    ghost use Rattle.audit_sd.specs.receivers.DeliveryKeys.{delivery_cmp};
     ghost use Rattle.audit_sd.specs.receivers.ReceiverTables.{Receivers, coded_receivers};
 
     ghost Value = { Receivers };
@@ -45,7 +43,7 @@ impl Model for ReceiverBook {
       limit = b.room.limit;
       settled = b.settled;
       standing = map_of subscription_cmp b.standing;
-      told = map_of delivery_cmp b.told;
+      told = b.told;
       told_full = b.room.told_full;
     } };
 }
@@ -66,7 +64,7 @@ impl ReceiverBook {
             room: Room::new(limit),
             settled,
             standing: Standing::new(alloc),
-            told: KeySet::new(alloc),
+            told: ToldEvents::new(alloc),
         }
     }
 
@@ -116,7 +114,7 @@ impl ReceiverBook {
             return Ok(self.room.tell_full(Finding::Full));
         }
         subscribe(&mut self.standing, now, &entry, endpoint)?;
-        untell(&mut self.told, &entry, endpoint);
+        self.told.untell(&entry.key, endpoint);
         Ok(None)
     }
 
@@ -149,17 +147,17 @@ impl ReceiverBook {
         if is_silent(self.room.told_full, now, self.settled) {
             return Ok(None);
         }
-        if is_told(&self.told, &delivery) {
+        if self.told.contains(&delivery) {
             return Ok(None);
         }
         if self.standing.is_subscribed(&delivery) {
             return Ok(None);
         }
-        if !has_room(&self.told, self.room.limit) {
+        if self.told.len() >= self.room.limit {
             self.room.told_full = true;
             return Ok(Some(Finding::Full));
         }
-        note(&mut self.told, delivery)?;
+        self.told.insert(delivery)?;
         Ok(Some(Finding::Unsubscribed))
     }
 }

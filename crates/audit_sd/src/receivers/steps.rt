@@ -7,22 +7,18 @@ ghost use Rattle.someip_tables.specs.Tables.{map_of};
 ghost use Rattle.someip_tables.specs.hashed.Rooms.{may_hold};
 ghost use Rattle.audit_sd.specs.subscriptions.SubscriptionKeys.{subscription_cmp};
 ghost use Rattle.audit_sd.specs.subscriptions.SubscribeRules.{is_of};
-ghost use Rattle.audit_sd.specs.receivers.DeliveryKeys.{delivery_cmp};
 ghost use Rattle.audit_sd.specs.receivers.ReceiverRules.{goes_by, is_to, standing_from};
-ghost use Rattle.audit_sd.specs.receivers.ReceiverTables.{acked, is_subscribed, untold};
+ghost use Rattle.audit_sd.specs.receivers.ReceiverTables.{acked, is_subscribed};
 
 use crate::receivers::delivery::Delivery;
 use crate::receivers::entry::{ReceiverEntry, WithdrawnOffer};
 use crate::receivers::places::Held;
 use crate::receivers::standing::Standing;
 use crate::subscriptions::SubscriptionKey;
-use someip_tables::hashed::{KeySet, Room};
+use someip_tables::hashed::Room;
 use someip_tables::{Deadline, Moment, is_same_key};
 use std::alloc::AllocError;
 use std::net::{Ipv4Addr, SocketAddrV4};
-
-/// The events that were told.
-pub(crate) type Told = KeySet<Delivery>;
 
 /// Whether the subscription of an entry may be held.
 pub(crate) fn may_hold(standing: &Standing, room: Room, entry: &ReceiverEntry) -> bool
@@ -72,15 +68,6 @@ pub(crate) fn subscribe(
     standing.insert(entry.key, endpoint, Deadline::after_ttl(now, entry.ttl))
 }
 
-/// What was told of events that may go by a subscription is told again, should it end.
-pub(crate) fn untell(told: &mut Told, entry: &ReceiverEntry, endpoint: SocketAddrV4)
-    ensures { map_of delivery_cmp told.new
-        ≡ untold entry.now.key endpoint (map_of delivery_cmp told.old) }
-{
-    let key = entry.key;
-    told.retain(|delivery| !goes_by(delivery, &key, endpoint));
-}
-
 /// Whether the endpoint of an event is subscribed. It looks at every subscription, up to the first by
 /// which the event may go.
 pub(crate) fn is_subscribed(held: &Held, delivery: &Delivery) -> bool
@@ -99,30 +86,6 @@ pub(crate) fn is_silent(told_full: bool, now: Moment, settled: Moment) -> bool
     ensures { result ≡ told_full || nat_lt now settled }
 {
     told_full || now.as_millis() < settled.as_millis()
-}
-
-/// Whether an event was told.
-pub(crate) fn is_told(told: &Told, delivery: &Delivery) -> bool
-    ensures { result ≡ is_some (finite.get (map_of delivery_cmp told.now) delivery.now) }
-{
-    told.contains(delivery)
-}
-
-/// Whether there is room for one more event that is told.
-pub(crate) fn has_room(told: &Told, limit: usize) -> bool
-    ensures { result ≡ nat_lt (finite.len (map_of delivery_cmp told.now)) limit }
-{
-    told.len() < limit
-}
-
-/// Takes note that an event was told.
-pub(crate) fn note(told: &mut Told, delivery: Delivery) -> Result<(), AllocError>
-    ensures after { IfOk result (λ _. map_of delivery_cmp told.new
-        ≡ finite.insert (map_of delivery_cmp told.old) delivery tt) }
-    ensures err { OnErr result
-        (map_of delivery_cmp told.new ≡ map_of delivery_cmp told.old) }
-{
-    told.insert(delivery)
 }
 
 /// Whether an event may go by a subscription with this endpoint.
