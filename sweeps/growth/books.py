@@ -236,7 +236,7 @@ def named(*makers):
     return {make.__name__.replace("_", " "): make for make in makers}
 
 
-# What holds, and what still goes over a whole book at each hit.
+# What is known to hold, and what was not measured since its book finds what a hit concerns.
 HELD = named(event_receivers, reboots, reboots_of_offers, reboots_of_subscribes, gaps, ways, offers)
 BOOKS = HELD | named(
     calls,
