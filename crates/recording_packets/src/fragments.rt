@@ -2,6 +2,7 @@
 //!
 //! - [`Fragments`]: the packets that came in part; what a fragment makes of them is
 //!   [`Fragments::offer`];
+//! - [`HeldFragments`]: what is held of one of them;
 //! - [`GivenUp`]: how many fragments were given up;
 //! - [`PacketKey`]: what tells the fragments of one packet from those of another;
 //! - [`laws`]: what the definitions behind the contracts promise.
@@ -16,6 +17,7 @@
 ghost use Rattle.std.specs.Prelude.{◌≡◌, ◌≤◌, ◌<◌, ◌+◌, ◌^◌, OnOk, OnErr, IfOk, is_some};
 ghost use Rattle.std.specs.Prelude.{option_map};
 ghost use Rattle.recording.specs.View.{view_ipv4};
+ghost use Rattle.recording_packets.specs.fragments.Parts.{held_under};
 ghost use Rattle.recording_packets.specs.fragments.Stores.{nothing_held, offered, all_fragments};
 ghost use Rattle.recording_packets.specs.fragments.Takings.{alone, differing, payload_in};
 
@@ -26,7 +28,7 @@ mod parts;
 mod piece;
 
 use partial::Partial;
-use parts::{Taken, count, expire, push_out, take_in};
+use parts::{Taken, count, expire, held_under, push_out, take_in};
 pub use piece::PacketKey;
 use piece::Piece;
 use recording::Ipv4Packet;
@@ -40,6 +42,15 @@ pub struct GivenUp {
     pub without_rest: u64,
     /// Those of packets of which two fragments differ.
     pub that_differ: u64,
+}
+
+/// The fragments that are held of a packet.
+#[derive(Clone, Copy, Debug, PartialEq, Eq)]
+pub struct HeldFragments {
+    /// When the first of them came, in nanoseconds.
+    pub first: u64,
+    /// How many came.
+    pub count: u64,
 }
 
 /// The packets that came in part: 64 at most, of at most 65,535 bytes of payload each, and each for
@@ -116,6 +127,13 @@ impl Fragments {
             Some(payload) => Some(payload),
             None => None,
         }
+    }
+
+    /// The fragments that are held of the packet with a key, if any are.
+    pub fn held(&self, key: &PacketKey) -> Option<HeldFragments>
+        ensures { result ≡ held_under key.now self.now.parts }
+    {
+        held_under(&self.parts, key)
     }
 
     /// How many fragments were given up, with those that are held: the rest does not come after the

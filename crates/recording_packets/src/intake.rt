@@ -8,11 +8,12 @@ ghost use Rattle.recording_packets.specs.Intake.{nothing_taken, remembering, tak
 ghost use Rattle.recording_packets.specs.Intake.{taken_with, wants_memory};
 ghost use Rattle.recording_packets.specs.LeftOut.{total};
 ghost use Rattle.recording_packets.specs.View.{arrival_of, packet_under, view_arrival, view_chosen};
+ghost use Rattle.recording_packets.specs.fragments.Parts.{held_under};
 ghost use Rattle.recording_packets.specs.fragments.Stores.{all_fragments, offered};
 
 use crate::chosen::ChosenPackets;
 use crate::copies::Copies;
-use crate::fragments::Fragments;
+use crate::fragments::{Fragments, HeldFragments, PacketKey};
 use crate::left_out::LeftOut;
 use recording::{Carried, Datagram, Ipv4Packet, Record, Time};
 use std::alloc::{AllocError, Global};
@@ -225,6 +226,13 @@ impl Intake {
             }),
             Carried::Fragment | Carried::Nothing(_) => None,
         }
+    }
+
+    /// The fragments that are held of the packet with a key, if any are.
+    pub fn held(&self, key: &PacketKey) -> Option<HeldFragments>
+        ensures { result ≡ held_under key.now self.now.fragments.parts }
+    {
+        self.fragments.held(key)
     }
 
     /// How many packets came.

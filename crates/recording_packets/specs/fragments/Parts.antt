@@ -1,7 +1,8 @@
 -- Packets of which fragments came (RFC 791, section 3.2, "An Example Reassembly Procedure").
-use Rattle.std.specs.Prelude.{ℕ, ◌+◌, ◌-◌, Bool, false, not, ◌||◌, ◌&&◌, ◌==◌, nat_lt, nat_le, if◌then◌else◌, List, [], ◌∷◌, length, drop, Option, Some, None}
+use Rattle.std.specs.Prelude.{ℕ, ◌+◌, ◌-◌, Bool, false, not, ◌||◌, ◌&&◌, ◌==◌, nat_lt, nat_le, if◌then◌else◌, List, [], ◌∷◌, length, drop, Option, Some, None, option_map}
 use Rattle.std.specs.List.{sum_by}
 use Rattle.recording_packets.specs.declared.fragments.piece.PacketKey.{PacketKey}
+use Rattle.recording_packets.specs.declared.fragments.HeldFragments.{HeldFragments}
 use Rattle.recording_packets.specs.fragments.Pieces.{same_key, Piece, end_of}
 use Rattle.recording_packets.specs.fragments.Cells.{Cells, with_bytes, has_another, all_bytes}
 
@@ -72,6 +73,14 @@ is_gone now part = not (is_fresh now part)
 abbrev pub part_under : PacketKey → List Part → Option Part
 part_under key [] = None
 part_under key (part ∷ parts) = if same_key key part.key then Some part else part_under key parts
+
+-- how many fragments of a packet in part came, and when the first did
+abbrev pub held_of : Part → HeldFragments
+held_of part = record { first = part.first; count = part.fragments }
+
+-- the same of the packet in part with this key, if there is one
+abbrev pub held_under : PacketKey → List Part → Option HeldFragments
+held_under key parts = option_map held_of (part_under key parts)
 
 -- all of them but that one
 abbrev pub without : PacketKey → List Part → List Part

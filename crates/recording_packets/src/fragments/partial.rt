@@ -4,9 +4,10 @@ ghost use Rattle.std.specs.Prelude.{is_some, length, if◌then◌else◌};
 ghost use Rattle.recording_packets.specs.fragments.Pieces.{same_key, end_of};
 ghost use Rattle.recording_packets.specs.fragments.Parts.{nothing_of, differs, is_past, is_before};
 ghost use Rattle.recording_packets.specs.fragments.Parts.{with_those_of, with_piece, payload_of};
-ghost use Rattle.recording_packets.specs.fragments.Parts.{is_fresh};
+ghost use Rattle.recording_packets.specs.fragments.Parts.{held_of, is_fresh};
 ghost use Rattle.recording_packets.specs.fragments.Views.{view_piece, cells_of, count_known};
 
+use crate::fragments::HeldFragments;
 use crate::fragments::cells::{differ_at, grow, put};
 use crate::fragments::piece::{PacketKey, Piece};
 use std::alloc::{AllocError, Global};
@@ -76,6 +77,16 @@ impl Partial {
         ensures { result ≡ self.now.fragments }
     {
         self.fragments
+    }
+
+    /// How many fragments came, and when the first did.
+    pub(crate) fn held(&self) -> HeldFragments
+        ensures { result ≡ held_of self.now }
+    {
+        HeldFragments {
+            first: self.first,
+            count: self.fragments,
+        }
     }
 
     /// Whether a piece differs from what came.

@@ -4,11 +4,12 @@ ghost use Rattle.std.specs.Prelude.{OnErr, IfOk, filter, length, take, slice_ind
 ghost use Rattle.recording_packets.specs.fragments.Pieces.{end_of, is_too_long};
 ghost use Rattle.recording_packets.specs.fragments.Parts.{Part, nothing_of, differs, with_piece};
 ghost use Rattle.recording_packets.specs.fragments.Parts.{payload_of, is_fresh, is_gone};
-ghost use Rattle.recording_packets.specs.fragments.Parts.{fragments_of};
+ghost use Rattle.recording_packets.specs.fragments.Parts.{fragments_of, held_under};
 ghost use Rattle.recording_packets.specs.fragments.Stores.{newest, pushed_out};
 ghost use Rattle.recording_packets.specs.fragments.Takings.{StandsAt, TakesAt, TakesNew, Takes};
 ghost use Rattle.recording_packets.specs.fragments.Views.{view_piece};
 
+use crate::fragments::HeldFragments;
 use crate::fragments::partial::Partial;
 use crate::fragments::piece::{PacketKey, Piece};
 use std::alloc::{AllocError, Global};
@@ -122,6 +123,18 @@ fn take_new(
     }
     parts.push(partial)?;
     Ok(Taken::InPart)
+}
+
+/// The fragments that are held of the packet with a key, if any are.
+pub(crate) fn held_under(parts: &[Partial], key: &PacketKey) -> Option<HeldFragments>
+    ensures { result ≡ held_under key.now parts.now }
+{
+    for partial in parts {
+        if partial.is_for(key) {
+            return Some(partial.held());
+        }
+    }
+    None
 }
 
 /// How many fragments came of these packets.
