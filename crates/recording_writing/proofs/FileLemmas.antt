@@ -175,13 +175,16 @@ pub links_grow : (links : List ℕ) (ks more : List RecordValue) → links_of li
 links_grow links [] more = refl
 links_grow links (x ∷ ks) more = links_grow (links_after links x) ks more
 
+-- what packets add, and others behind them
+pub bytes_grow : (links : List ℕ) (ks more : List RecordValue)
+    → blocks_bytes Little (packets_blocks links (ks ++ more)) ≡ blocks_bytes Little (packets_blocks links ks) ++ blocks_bytes Little (packets_blocks (links_of links ks) more)
+bytes_grow links ks more = ap (blocks_bytes Little) (packets_grow links ks more) ∙ blocks_append (packets_blocks links ks) (packets_blocks (links_of links ks) more) (all_little links ks)
+
 pub file_grows : (ks more : List RecordValue) → file_of (ks ++ more) ≡ file_of ks ++ blocks_bytes Little (packets_blocks (links_of [] ks) more)
 file_grows ks more =
     let head = block_bytes Big section_block in
-    let blocks = packets_blocks (links_of [] ks) more in
-    ap (λ (t : List SpelledBlock). head ++ blocks_bytes Little t) (packets_grow [] ks more)
-    ∙ ap (λ (t : List ℕ). head ++ t) (blocks_append (packets_blocks [] ks) blocks (all_little [] ks))
-    ∙ sym (append_assoc head (blocks_bytes Little (packets_blocks [] ks)) (blocks_bytes Little blocks))
+    ap (λ (t : List ℕ). head ++ t) (bytes_grow [] ks more)
+    ∙ sym (append_assoc head (blocks_bytes Little (packets_blocks [] ks)) (blocks_bytes Little (packets_blocks (links_of [] ks) more)))
 
 -- ---- what is too long
 
