@@ -32,7 +32,7 @@ pub mod moments;
 pub mod read_loop;
 pub mod reassembly;
 mod recordings;
-mod sought;
+pub mod sought;
 mod wanted;
 
 pub use asked::{Asked, Heads, WholeLimits};

@@ -15,7 +15,7 @@ use std::alloc::{AllocError, Global};
 const MOST_LEARNED: usize = 65536;
 
 /// What learns endpoints, where that is asked for.
-pub(crate) fn learner_of(alloc: Global, wanted: &Wanted<'_>) -> Result<Option<Learner>, AllocError>
+pub fn learner_of(alloc: Global, wanted: &Wanted<'_>) -> Result<Option<Learner>, AllocError>
     ensures { IfOk result (λ learner. learner ≡ learner_of (view_wanted wanted.now)) }
 {
     if !wanted.learned {
@@ -41,7 +41,7 @@ fn ports_of<'p>(ports: Option<&'p [u16]>) -> &'p [u16]
 
 /// Whether a datagram is told of, by what was learned before it; what it names is learned then. Where memory
 /// runs out nothing is promised of what was learned.
-pub(crate) fn seeks(
+pub fn seeks(
     alloc: Global,
     wanted: &Wanted<'_>,
     learner: &mut Option<Learner>,
@@ -87,7 +87,7 @@ fn origin_of(arrival: &Arrival<'_>) -> Origin
 }
 
 /// Whether an endpoint was named where no more may be learned.
-pub(crate) fn is_full(learner: &Option<Learner>) -> bool
+pub fn is_full(learner: &Option<Learner>) -> bool
     ensures { result ≡ is_full learner.now }
 {
     match learner {
