@@ -1,0 +1,4 @@
+pub mod Kept
+pub mod Codes
+pub mod Extraction
+pub mod Extracted
