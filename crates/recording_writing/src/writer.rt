@@ -6,6 +6,7 @@ ghost use Rattle.recording.specs.declared.number.ByteOrder.TheVariants.{Big, Lit
 ghost use Rattle.recording_writing.specs.Blocks.{blocks_for, description, has_ticks, is_new, is_simple};
 ghost use Rattle.recording_writing.specs.Blocks.{links_after, links_with, number_of, packet_block, put_of};
 ghost use Rattle.recording_writing.specs.Blocks.{is_too_long, section_block};
+ghost use Rattle.recording_writing.specs.Files.{IsPacket};
 ghost use Rattle.someipctl_io.specs.Sending.{Sends, Stops};
 ghost use Rattle.someipctl_io.specs.declared.fault.PrintFault.TheVariants.{OutOfMemory};
 
@@ -102,6 +103,8 @@ impl PacketWriter {
         ensures told { IfOk result (λ put. put
             ≡ put_of (number_of self.old packet.now.link) (view_record packet.now)) }
         ensures after { OnOk result (self.new ≡ links_after self.old (view_record packet.now)) }
+        // Its numbers fit their fields, so that it is read again.
+        ensures fits { IsPacket (view_record packet.now) }
         // Else a beginning of its blocks.
         ensures err { OnErr result (Stops (W.contents writer.old) buffer.old (W.contents writer.new)
             (blocks_bytes Little (blocks_for self.old (view_record packet.now)))) }

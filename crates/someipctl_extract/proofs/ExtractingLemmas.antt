@@ -5,6 +5,7 @@ use Rattle.recording.specs.Captured.{RecordValue}
 use Rattle.recording.specs.Records.{Item}
 use Rattle.recording.specs.Readers.{ReaderValue, CanFollow, to_come}
 use Rattle.recording_writing.specs.Files.{file_of}
+use Rattle.recording_writing.proofs.FileLemmas.{file_held}
 use Rattle.someipctl_io.specs.Sending.{Sends, Stops}
 use Rattle.someipctl_io.proofs.SendingLemmas.{Sends-all, Sends-as, Sends-flush, Sends-nil, Sends-trans, Stops-after, Stops-as, Stops-before, Stops-flush}
 use Rattle.someipctl_recordings.specs.declared.FileFault.{FileFault}
@@ -18,7 +19,7 @@ use Rattle.someipctl_extract.specs.declared.extract.ExtractedRecording.{Extracte
 use Rattle.someipctl_extract.specs.declared.output.Output.{Output}
 use Rattle.someipctl_extract.specs.Extraction.{Extraction, after_records, datagrams_from, nothing_taken, nothing_written, packets_of, with_datagrams}
 use Rattle.someipctl_extract.specs.Extracted.{BeginsExtract, Extracts, PutsExtract, extracted_from, extracted_recording, known_after, losses_of}
-use Rattle.someipctl_extract.proofs.ExtractionLemmas.{after_records-append, bytes_from, datagrams-append, extraction_of, file-append, output-append, output_of, packets_in}
+use Rattle.someipctl_extract.proofs.ExtractionLemmas.{AreFit, fits-append, packets-append, after_records-append, bytes_from, datagrams-append, extraction_of, file-append, output-append, output_of, packets_in}
 
 -- the packets of the items that came were printed, and none of these is a fault
 pub record IsExtracted (w : WantedValue) (inputs ares : List (Option (List ℕ))) (k : ℕ) (r : ReaderValue) (before after : Option (List ℕ)) (held : List ℕ) (e : Extraction) (o : Output) : Type 0 where
@@ -28,6 +29,7 @@ pub record IsExtracted (w : WantedValue) (inputs ares : List (Option (List ℕ))
   pub took : e ≡ extraction_of w done
   pub wrote : o ≡ output_of w done
   pub none : fault_among done ≡ None
+  pub fits : AreFit (packets_in w done)
 
 pub extracted_begin : (w : WantedValue) (inputs : List (Option (List ℕ))) (r : ReaderValue) (before after : Option (List ℕ)) (empty held : List ℕ) (e : Extraction) (o : Output)
     → r ≡ begin → empty ≡ [] → e ≡ nothing_taken w → o ≡ nothing_written → Sends before empty after held (file_of []) → IsExtracted w inputs inputs 0 r before after held e o
@@ -38,6 +40,7 @@ extracted_begin w inputs r before after empty held e o is none taken written sen
   took = taken;
   wrote = written;
   none = refl;
+  fits = tt;
 }
 
 -- ---- a beginning of the file
@@ -92,8 +95,9 @@ stops_within w inputs ares next k r new now before after later last held waits e
 pub extracted_more : (w : WantedValue) (inputs ares next : List (Option (List ℕ))) (k : ℕ) (r new : ReaderValue) (now before after later last : Option (List ℕ)) (held waits rest : List ℕ) (e more : Extraction) (o after_o : Output) (items : List Item)
     → IsExtracted w inputs ares k r before after held e o → k < length ares → IsStep ares next k now → Comes r new (left_at ares k) now items → Sends after held later waits []
     → Sends later waits last rest (bytes_from w e o items) → after_o ≡ with_datagrams o (datagrams_from w e items) → more ≡ after_records w e items → fault_among items ≡ None
+    → AreFit (packets_of (datagrams_from w e items))
     → IsExtracted w inputs next k new before last rest more after_o
-extracted_more w inputs ares next k r new now before after later last held waits rest e more o after_o items is within step comes sends prints writes takes none = record {
+extracted_more w inputs ares next k r new now before after later last held waits rest e more o after_o items is within step comes sends prints writes takes none fit = record {
   done = is.done ++ items;
   reads = reads_more inputs ares next k r new now is.done items is.reads within step comes;
   sends = Sends-as before last [] rest _ _ (next_bytes w inputs ares k r before after held e o items is)
@@ -102,6 +106,8 @@ extracted_more w inputs ares next k r new now before after later last held waits
   wrote = writes ∙ ap (λ (q : Extraction). with_datagrams o (datagrams_from w q items)) is.took
       ∙ ap (λ (q : Output). with_datagrams q (datagrams_from w (extraction_of w is.done) items)) is.wrote ∙ sym (output-append w is.done items);
   none = fault-append is.done items is.none ∙ none;
+  fits = subst AreFit (ap (λ (q : Extraction). packets_in w is.done ++ packets_of (datagrams_from w q items)) is.took ∙ sym (packets-append w is.done items))
+      (fits-append (packets_in w is.done) (packets_of (datagrams_from w e items)) is.fits fit);
 }
 
 -- nothing came
@@ -109,7 +115,7 @@ pub extracted_same : (w : WantedValue) (inputs ares next : List (Option (List �
     → IsExtracted w inputs ares k r before after held e o → k < length ares → IsStep ares next k now → Comes r new (left_at ares k) now [] → Sends after held later waits []
     → IsExtracted w inputs next k new before later waits e o
 extracted_same w inputs ares next k r new now before after later held waits e o is within step comes sends =
-    extracted_more w inputs ares next k r new now before after later later held waits waits e e o o [] is within step comes sends (Sends-nil later waits) refl refl refl
+    extracted_more w inputs ares next k r new now before after later later held waits waits e e o o [] is within step comes sends (Sends-nil later waits) refl refl refl tt
 
 -- the next file begins
 pub extracted_next : (w : WantedValue) (inputs ares next : List (Option (List ℕ))) (k : ℕ) (r new fresh : ReaderValue) (now before after later : Option (List ℕ)) (held waits : List ℕ) (e : Extraction) (o : Output)
@@ -123,6 +129,7 @@ extracted_next w inputs ares next k r new fresh now before after later held wait
   took = is.took;
   wrote = is.wrote;
   none = is.none;
+  fits = is.fits;
 }
 
 -- ---- the end
@@ -139,6 +146,7 @@ puts_whole w inputs ares k r before after later held waits e o items fault is f 
     record {
       files = f.files;
       left = f.left;
+      fits = subst AreFit (sym same) is.fits;
       sends = Sends-as before later [] waits _ _ (sym (ap file_of same)) (Sends-flush before after later [] held waits _ is.sends sends);
       tells = ap (λ (q : Extraction). extracted_recording q o.losses fault) (is.took ∙ sym (ap (extraction_of w) f.came ∙ after_records-append w (nothing_taken w) done items ∙ untaken (extraction_of w done)))
           ∙ ap (λ (q : Output). extracted_recording (known_after w f.files) q.losses fault) (is.wrote ∙ sym (ap (output_of w) f.came ∙ ap (with_datagrams nothing_written) (datagrams_none done)))
@@ -182,5 +190,6 @@ puts_extracted w inputs before later last waits new done p sends empty = record 
   files = p.files;
   left = p.left;
   wrote = Sends-all before last [] new (file_of (extracted_from w p.files)) (Sends-flush before later last [] waits new (file_of (extracted_from w p.files)) p.sends sends) refl empty;
+  read = file_held (extracted_from w p.files) p.fits;
   tells = p.tells;
 }

@@ -2,6 +2,7 @@
 use Rattle.std.proofs.Common.{◌≡◌, ℕ, suc, List, [], ◌∷◌, ◌++◌, length, Bool, true, false, cond, Option, Some, None, Ok, Err, refl, sym, ap, subst, ◌∙◌, append_assoc, append-nil}
 use Rattle.std.proofs.lemmas.List.Concat.{flat_map-append}
 use Rattle.std.specs.Prelude.{unwrap_or}
+use Rattle.std.specs.List.{AllByRecursion}
 use Rattle.std.specs.Option.{option_to_list}
 use Rattle.recording.specs.declared.number.ByteOrder.TheVariants.{Little}
 use Rattle.recording.specs.Captured.{RecordValue}
@@ -9,7 +10,7 @@ use Rattle.recording.specs.Records.{Item}
 use Rattle.recording.specs.Spelling.{blocks_bytes}
 use Rattle.recording_packets.specs.declared.fragments.PacketKey.{PacketKey}
 use Rattle.recording_packets.specs.Intake.{ArrivalValue, after_packet, arrivals, arrived}
-use Rattle.recording_writing.specs.Files.{file_of, links_of, packets_blocks}
+use Rattle.recording_writing.specs.Files.{IsPacket, file_of, links_of, packets_blocks}
 use Rattle.recording_writing.proofs.FileLemmas.{bytes_grow, file_grows, links_grow}
 use Rattle.someipctl_io.specs.Sending.{Sends}
 use Rattle.someipctl_io.proofs.SendingLemmas.{IsSending, IsSending-more, Sends-as, Sends-nil}
@@ -74,10 +75,13 @@ extraction_of w items = after_records w (nothing_taken w) items
 abbrev pub output_of : WantedValue → List Item → Output
 output_of w items = with_datagrams nothing_written (datagrams_from w (nothing_taken w) items)
 
+pub packets-append : (w : WantedValue) (items others : List Item) → packets_in w (items ++ others) ≡ packets_in w items ++ packets_of (datagrams_from w (extraction_of w items) others)
+packets-append w items others = ap packets_of (datagrams-append w (nothing_taken w) items others) ∙ packets_of-append (datagrams_from w (nothing_taken w) items) (datagrams_from w (extraction_of w items) others)
+
 pub file-append : (w : WantedValue) (items others : List Item) → file_of (packets_in w (items ++ others)) ≡ file_of (packets_in w items) ++ bytes_from w (extraction_of w items) (output_of w items) others
 file-append w items others =
     let more = packets_of (datagrams_from w (extraction_of w items) others) in
-    ap file_of (ap packets_of (datagrams-append w (nothing_taken w) items others) ∙ packets_of-append (datagrams_from w (nothing_taken w) items) (datagrams_from w (extraction_of w items) others))
+    ap file_of (packets-append w items others)
     ∙ file_grows (packets_in w items) more
     ∙ ap (λ (links : List ℕ). file_of (packets_in w items) ++ blocks_bytes Little (packets_blocks links more)) (sym (datagrams-links nothing_written (datagrams_from w (nothing_taken w) items)))
 
@@ -109,6 +113,32 @@ bytes_kept o own key kept r ks is under =
 pub output_kept : (o : Output) (own : Option PacketKey) (key : PacketKey) (kept : List PartValue) (r : RecordValue) (ks : List RecordValue) → own ≡ Some key → packets_under key kept ≡ Some ks
     → with_packets (with_packets o ks) (r ∷ []) ≡ with_datagram o (packets_at own kept r)
 output_kept o own key kept r ks is under = rw (is, under) (sym (with_packets-append o ks (r ∷ [])))
+
+-- ---- numbers that fit
+
+abbrev pub AreFit : List RecordValue → Type 0
+AreFit ks = AllByRecursion IsPacket ks
+
+pub fits-append : (ks more : List RecordValue) → AreFit ks → AreFit more → AreFit (ks ++ more)
+fits-append [] more one other = other
+fits-append (k ∷ ks) more one other = (one.0, fits-append ks more one.1 other)
+
+pub fits_kept : (own : Option PacketKey) (key : PacketKey) (kept : List PartValue) (r : RecordValue) (ks : List RecordValue) → own ≡ Some key → packets_under key kept ≡ Some ks
+    → AreFit ks → IsPacket r → AreFit (packets_of (packets_at own kept r ∷ []))
+fits_kept own key kept r ks is under fits one = rw (is, under) (subst AreFit (sym (append-nil (ks ++ r ∷ []))) (fits-append ks (r ∷ []) fits (one, tt)))
+
+pub fits_sought : (w : WantedValue) (e : Extraction) (r : RecordValue) (key : Option PacketKey) (kept : List PartValue) → gives w e.sought r ≡ true → key ≡ fragment_key r → kept ≡ e.kept
+    → AreFit (packets_of (packets_at key kept r ∷ [])) → AreFit (packets_of (datagrams_from w e (Ok r ∷ [])))
+fits_sought w e r key kept is own same fits =
+    subst AreFit
+    (ap (λ k. packets_of (packets_at k kept r ∷ [])) own ∙ ap (λ q. packets_of (packets_at (fragment_key r) q r ∷ [])) same
+    ∙ sym (ap (λ t. packets_of (cond t (packets_at (fragment_key r) e.kept r ∷ []) [] ++ [])) is))
+    fits
+
+pub fits_other : (w : WantedValue) (e : Extraction) (r : RecordValue) → gives w e.sought r ≡ false → AreFit (packets_of (datagrams_from w e (Ok r ∷ [])))
+fits_other w e r is = subst AreFit (sym (ap (λ t. packets_of (cond t (packets_at (fragment_key r) e.kept r ∷ []) [] ++ [])) is)) tt
+
+-- ---- what a packet gives
 
 -- a packet gives a datagram that is asked for, or none
 pub sends_sought : (a b : Option (List ℕ)) (held waits : List ℕ) (w : WantedValue) (e : Extraction) (o : Output) (r : RecordValue) (key : Option PacketKey) (kept : List PartValue)

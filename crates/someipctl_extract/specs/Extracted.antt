@@ -1,9 +1,11 @@
 -- What extracting from recordings writes and tells.
 use Rattle.std.specs.Prelude.{◌≡◌, ℕ, List, [], Option}
 use Rattle.std.specs.Io.KnownBytes.{Appends}
+use Rattle.std.specs.List.{AllByRecursion}
 use Rattle.recording.specs.Captured.{RecordValue}
 use Rattle.recording_packets.specs.Intake.{left_out_at}
-use Rattle.recording_writing.specs.Files.{file_of}
+use Rattle.recording.specs.HeldItems.{held_of}
+use Rattle.recording_writing.specs.Files.{IsPacket, file_of, items_read}
 use Rattle.someipctl_io.specs.Sending.{Sends, Stops}
 use Rattle.someipctl_recordings.specs.declared.FileFault.{FileFault}
 use Rattle.someipctl_recordings.specs.Files.{WereLeft, fault_in, items_of_files}
@@ -39,11 +41,12 @@ extracted_recording e losses fault = record {
   fault = fault;
 }
 
--- the file of the packets that are extracted was written, and what is told is so
+-- the file of the packets that are extracted was written, which is read as just these, and what is told is so
 pub record Extracts (inputs : List (Option (List ℕ))) (w : WantedValue) (done : ExtractedRecording) (before after : Option (List ℕ)) : Type 0 where
   pub files : List (List ℕ)
   pub left : WereLeft inputs files
   pub wrote : Appends before after (file_of (extracted_from w files))
+  pub read : held_of (file_of (extracted_from w files)) ≡ items_read (extracted_from w files)
   pub tells : done ≡ extracted_recording (known_after w files) (losses_of w files) (fault_in files)
 
 -- a beginning of it was written, which may be nothing
@@ -57,6 +60,7 @@ pub record PutsExtract (inputs : List (Option (List ℕ))) (w : WantedValue) (do
   pub files : List (List ℕ)
   pub left : WereLeft inputs files
   pub sends : Sends before [] after waits (file_of (extracted_from w files))
+  pub fits : AllByRecursion IsPacket (extracted_from w files)
   pub tells : done ≡ extracted_recording (known_after w files) (losses_of w files) (fault_in files)
 
 -- what is known, of the program's values

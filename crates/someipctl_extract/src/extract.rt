@@ -1,10 +1,11 @@
 //! The packets of the datagrams that are asked for, as recordings are read.
 ghost use Rattle.std.specs.Prelude.{◌≡◌, ◌<◌, ◌∷◌, [], Ok, IfOk, IfErr, OnOk, OnErr, length, map, option_and_then};
+ghost use Rattle.std.specs.List.{AllByRecursion};
 ghost use Rattle.recording.specs.View.{view_record};
 ghost use Rattle.recording.specs.Spelling.{blocks_bytes};
 ghost use Rattle.recording.specs.declared.number.ByteOrder.TheVariants.{Little};
 ghost use Rattle.recording_packets.specs.fragments.Parts.{held_under};
-ghost use Rattle.recording_writing.specs.Files.{packets_blocks};
+ghost use Rattle.recording_writing.specs.Files.{IsPacket, packets_blocks};
 ghost use Rattle.someipctl_extract.specs.Extraction.{after_records, datagrams_from, gives, nothing_taken};
 ghost use Rattle.someipctl_extract.specs.Extraction.{packets_of, with_datagrams};
 ghost use Rattle.someipctl_extract.specs.Extracted.{BeginsExtract, Extracts, PutsExtract};
@@ -164,6 +165,8 @@ fn put_record<W: Write>(
         (datagrams_from (view_wanted wanted.now) (view_extraction extractor.old) (Ok (view_record found.now) ∷ [])))))) }
     ensures after { OnOk result (output.new ≡ with_datagrams output.old
         (datagrams_from (view_wanted wanted.now) (view_extraction extractor.old) (Ok (view_record found.now) ∷ []))) }
+    ensures fits { OnOk result (AllByRecursion IsPacket (packets_of
+        (datagrams_from (view_wanted wanted.now) (view_extraction extractor.old) (Ok (view_record found.now) ∷ [])))) }
     ensures took { OnOk result (view_extraction extractor.new
         ≡ after_records (view_wanted wanted.now) (view_extraction extractor.old) (Ok (view_record found.now) ∷ [])) }
     ensures err { OnErr result (Stops (W.contents writer.old) buffer.old (W.contents writer.new)

@@ -1,10 +1,10 @@
 //! The packets that are written, and what of them is lost.
 ghost use Rattle.std.specs.Prelude.{◌≡◌, ◌∷◌, [], IfOk, OnOk, OnErr};
+ghost use Rattle.std.specs.List.{AllByRecursion};
 ghost use Rattle.recording.specs.View.{view_record};
 ghost use Rattle.recording.specs.Spelling.{blocks_bytes};
 ghost use Rattle.recording.specs.declared.number.ByteOrder.TheVariants.{Little};
-ghost use Rattle.recording_writing.specs.Files.{packets_blocks};
-ghost use Rattle.recording_writing.specs.Files.{file_of};
+ghost use Rattle.recording_writing.specs.Files.{IsPacket, file_of, packets_blocks};
 ghost use Rattle.someipctl_extract.specs.Extraction.{nothing_lost, nothing_written, packets_at, packets_of};
 ghost use Rattle.someipctl_extract.specs.Extraction.{with_datagram, with_packets, with_put};
 ghost use Rattle.someipctl_io.specs.Sending.{Sends, Stops};
@@ -88,6 +88,7 @@ impl Output {
         ensures ok { OnOk result (Sends (W.contents writer.old) buffer.old (W.contents writer.new) buffer.new
             (blocks_bytes Little (packets_blocks self.old.packets (view_record packet.now ∷ [])))) }
         ensures after { OnOk result (self.new ≡ with_packets self.old (view_record packet.now ∷ [])) }
+        ensures fits { OnOk result (IsPacket (view_record packet.now)) }
         ensures err { OnErr result (Stops (W.contents writer.old) buffer.old (W.contents writer.new)
             (blocks_bytes Little (packets_blocks self.old.packets (view_record packet.now ∷ [])))) }
     {
@@ -106,6 +107,7 @@ impl Output {
         ensures ok { OnOk result (Sends (W.contents writer.old) buffer.old (W.contents writer.new) buffer.new
             (blocks_bytes Little (packets_blocks self.old.packets packets.now))) }
         ensures after { OnOk result (self.new ≡ with_packets self.old packets.now) }
+        ensures fits { OnOk result (AllByRecursion IsPacket packets.now) }
         ensures err { OnErr result (Stops (W.contents writer.old) buffer.old (W.contents writer.new)
             (blocks_bytes Little (packets_blocks self.old.packets packets.now))) }
     {
@@ -132,6 +134,8 @@ impl Output {
         ensures err { OnErr result (Stops (W.contents writer.old) buffer.old (W.contents writer.new)
             (blocks_bytes Little (packets_blocks self.old.packets
             (packets_of (packets_at key kept.now (view_record found.now) ∷ []))))) }
+        ensures fits { OnOk result (AllByRecursion IsPacket
+            (packets_of (packets_at key kept.now (view_record found.now) ∷ []))) }
     {
         let Some(key) = key else {
             return self.put(buffer, writer, found);

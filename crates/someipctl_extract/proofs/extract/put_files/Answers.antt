@@ -55,7 +55,7 @@ loop-file-preserved-in-Continue-branch-3 g c =
     let comes = comes_own g.R.Read.remaining c.loop-file.sources c.loop-file.file c.index-sources-file.result c.loop-file.recording c.next_coming.new.recording (g.R.Read.remaining c.next_coming.new.source) (Ok (view_record c.in-Some.found) ∷ []) c.loop-file-test.true (comes_taken c.loop-file.recording c.next_coming.new.recording _ _ c.in_ok-coming.coming _ c.in-Record.is taken c.in_ok-coming.ensures.comes) in
     let e = c.in_ok-put_record.ensures in
     extracted_more (view_wanted c.args.wanted.now) (map g.R.Read.remaining c.args.sources.now) (map g.R.Read.remaining c.loop-file.sources) (map g.R.Read.remaining (set c.loop-file.sources c.loop-file.file c.next_coming.new.source)) c.loop-file.file c.loop-file.recording c.next_coming.new.recording (g.R.Read.remaining c.next_coming.new.source) _ _ _ _ c.loop-file.buffer c.next_coming.new.buffer c.put_record.new.buffer (view_extraction c.loop-file.extractor) (view_extraction c.put_record.new.extractor) c.loop-file.output c.put_record.new.output (Ok (view_record c.in-Some.found) ∷ [])
-    c.loop-file.invariant (within_map g.R.Read.remaining c.loop-file.sources c.loop-file.file c.loop-file-test.true) (is_step g.R.Read.remaining c.loop-file.sources c.loop-file.file c.next_coming.new.source c.loop-file-test.true) comes c.in_ok-coming.ensures.sends e.ok e.after e.took refl
+    c.loop-file.invariant (within_map g.R.Read.remaining c.loop-file.sources c.loop-file.file c.loop-file-test.true) (is_step g.R.Read.remaining c.loop-file.sources c.loop-file.file c.next_coming.new.source c.loop-file-test.true) comes c.in_ok-coming.ensures.sends e.ok e.after e.took refl e.fits
 
 pub returns-in_err-put_record-clause-begun : goal.returns-in_err-put_record-clause-begun
 returns-in_err-put_record-clause-begun g c =
