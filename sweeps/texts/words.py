@@ -35,6 +35,9 @@ HELP = (
     ("someipctl|help|recording", "      --whole-slots <N>     How many may have come in part at once, 16 without it\n"),
     ("someipctl|help|recording", "      --whole-timeout <MS>  The milliseconds that a part stands after its last "
      "segment, 5000 without it\n"),
+    ("someipctl|help|extract", "Writes the packets of the datagrams that are chosen, as a recording\n\n"
+     "Usage: someipctl extract [OPTIONS] <FILE>...\n"),
+    ("someipctl|help|extract", "  someipctl extract --ports 30509 examples/one.pcap > part.pcapng\n"),
     ("someipctl|help|show", "      --service <SERVICES>  Prints only datagrams with a message of one of these "
      "services\n"),
     ("someipctl|help|show", "      --types <FILE>        Prints the values of the payloads whose shapes this file "
@@ -60,6 +63,8 @@ USAGE = (
     ("someipctl|explore|--most|0|x|y|z", "error: invalid value '0' for '--most <M>': schedules are a number from 1 to "
      "1000000000000\n\nUsage: someipctl explore [OPTIONS] <SETUP> <MOVES> <GOAL>\n"),
     ("someipctl|audit", "Usage: someipctl audit <FILE>...\n"),
+    ("someipctl|extract", "Usage: someipctl extract <FILE>...\n"),
+    ("someipctl|extract|--frames|x", "error: unexpected argument '--frames' found\n"),
     ("someipctl|payload|u8", "Usage: someipctl payload <SHAPE> <HEX>\n"),
     ("/bin/other", "Usage: someipctl <COMMAND>\n"),
     ("someipctl|list", "error: unrecognized subcommand 'list'\n"),
@@ -75,6 +80,8 @@ USAGE = (
 # Options with a number: the words before them, the option and its value's name, its range, and the usage that is told.
 RECORDING = "Usage: someipctl recording [OPTIONS] <FILE>..."
 AUDIT = "Usage: someipctl audit [OPTIONS] <FILE>..."
+EXTRACT = "Usage: someipctl extract [OPTIONS] <FILE>..."
+USAGES = {"recording": RECORDING, "audit": AUDIT, "extract": EXTRACT}
 NUMBERS = (
     ("recording|--whole", "--whole-limit", "N", 1400, 1048576, RECORDING),
     ("recording|--whole", "--whole-slots", "N", 1, 1024, RECORDING),
@@ -87,11 +94,11 @@ BAD_PORTS = ("0", "65536", "1,,2", ",1", "1,", "01", "+1", " 1", "1 ", "x", "1;2
 # Options of lists, of a client and of times: the commands that take them, the option and its value's name, what its
 # values are, texts that are none, and some that are.
 LISTS = (
-    (("recording", "audit"), "--interface", "N", "interfaces are numbers from 0 to 65535 with commas between them",
+    (tuple(USAGES), "--interface", "N", "interfaces are numbers from 0 to 65535 with commas between them",
      ("65536", "0,,1", ",0", "00", "-1", "x"), ("0", "65535", "0,1,0")),
-    (("recording", "audit"), "--vlan", "ID", "VLAN IDs are numbers from 0 to 4095 with commas between them",
+    (tuple(USAGES), "--vlan", "ID", "VLAN IDs are numbers from 0 to 4095 with commas between them",
      ("4096", "1,", "01", "x"), ("0", "4095", "7,6")),
-    (("recording", "audit"), "--dedup", "MS", "copies come within 1 to 60000 milliseconds", ("0", "60001", "01", "x"),
+    (tuple(USAGES), "--dedup", "MS", "copies come within 1 to 60000 milliseconds", ("0", "60001", "01", "x"),
      ("1", "60000")),
     (("recording",), "--address", "A", "addresses are IPv4 addresses with commas between them",
      ("1.2.3", "1.2.3.256", "1.2.3.4,", "1.2.3.4:5", "::1", " 1.2.3.4", "01.2.3.4"), ("1.2.3.4", "0.0.0.0,255.255.255.255")),
@@ -140,7 +147,7 @@ def values():
             yield f"{words}|{option}={text}|missing", 2, told
         for number in (least, most):
             yield f"{words}|{option}|{number}|missing", 4, "cannot read missing\n"
-    for command, usage in (("recording", RECORDING), ("audit", AUDIT)):
+    for command, usage in USAGES.items():
         for text in BAD_PORTS:
             yield (f"{command}|--ports|{text}|missing", 2, f"error: invalid value '{text}' for '--ports <PORTS>': "
                    f"ports are numbers from 1 to 65535 with commas between them\n\n{usage}\n")
@@ -148,7 +155,7 @@ def values():
             yield f"{command}|--ports|{text}|missing", 4, "cannot read missing\n"
     for commands, option, name, told, bad, good in LISTS:
         for command in commands:
-            usage = RECORDING if command == "recording" else AUDIT
+            usage = USAGES[command]
             for text in bad:
                 yield (f"{command}|{option}={text}|missing", 2,
                        f"error: invalid value '{text}' for '{option} <{name}>': {told}\n\n{usage}\n")
@@ -156,9 +163,10 @@ def values():
                 yield f"{command}|{option}|{text}|missing", 4, "cannot read missing\n"
     for words, told, usage in TOLD_FIRST:
         yield words, 2, f"{told}\n\n{usage}\n"
-    for command, usage in (("recording", RECORDING), ("show", SHOW)):
+    for command, files, usage in (("recording", "--types|nowhere|missing", RECORDING), ("extract", "missing", EXTRACT),
+                                  ("show", "--types|nowhere|missing", SHOW)):
         for text in BAD_SERVICES:
-            yield (f"{command}|--service|{text}|--types|nowhere|missing", 2, f"error: invalid value '{text}' for "
+            yield (f"{command}|--service|{text}|{files}", 2, f"error: invalid value '{text}' for "
                    "'--service <SERVICES>': services are four hex digits, perhaps with a dot and four more, with "
                    f"commas between them\n\n{usage}\n")
     for words in NAMED_FIRST:

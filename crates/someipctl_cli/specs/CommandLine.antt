@@ -13,13 +13,14 @@ use Rattle.clap.specs.declared.error.ErrorKind.TheVariants as kind
 use Rattle.clap.specs.declared.builder.ArgAction.TheVariants.{Append, SetTrue}
 use Rattle.someipctl_recordings.specs.declared.audit.SettingTexts.{SettingTexts}
 use Rattle.someipctl_cli.specs.declared.command.Command.{Command}
-use Rattle.someipctl_cli.specs.declared.command.Command.TheVariants.{Show, Payload, Encode, Vectors, Run, Recording, Chart, Audit, Explore}
+use Rattle.someipctl_cli.specs.declared.command.Command.TheVariants.{Show, Payload, Encode, Vectors, Run, Recording, Chart, Audit, Explore, Extract}
 use Rattle.someipctl_cli.specs.declared.command.AuditOptions.{AuditOptions}
 use Rattle.someipctl_cli.specs.declared.command.ChoiceOptions.{ChoiceOptions}
 use Rattle.someipctl_cli.specs.declared.command.PacketOptions.{PacketOptions}
 use Rattle.someipctl_cli.specs.declared.command.SettingOptions.{SettingOptions}
 use Rattle.someipctl_cli.specs.declared.command.RecordingOptions.{RecordingOptions}
 use Rattle.someipctl_cli.specs.declared.explore_words.ExploreOptions.{ExploreOptions}
+use Rattle.someipctl_cli.specs.declared.extract_words.ExtractOptions.{ExtractOptions}
 use Rattle.someipctl_cli.specs.declared.command.LineError.{LineError}
 use Rattle.someipctl_cli.specs.declared.command.LineError.TheVariants.{Usage, Help, OutOfMemory}
 
@@ -142,6 +143,14 @@ explore_options =
 abbrev pub explore_usage : Shape
 explore_usage = (with_rule (with_rule (with_rule explore_options (required (codes "setup"))) (required (codes "moves"))) (required (codes "goal"))).top
 
+-- `extract [--ports PORTS] [--service SERVICES] [--address A] [--client C] [--from TIME] [--until TIME] [--learned]
+-- [--interface N] [--vlan ID] [--dedup MS] FILE..`
+abbrev pub extract_options : App
+extract_options = with_packets (with_choice (with_rule (with_rule (new_app (codes "extract")) (valued (codes "ports"))) (valued (codes "service"))))
+
+abbrev pub extract_usage : Shape
+extract_usage = (with_rule extract_options (required_many (codes "file"))).top
+
 -- the program alone, which asks for a subcommand
 abbrev pub program : App
 program = on_top (λ top. record top { subcommand_required = true }) (new_app (codes "someipctl"))
@@ -154,9 +163,13 @@ with_byte_commands = with_subcommand (with_subcommand (with_subcommand program s
 abbrev pub with_file_commands : App
 with_file_commands = with_subcommand (with_subcommand with_byte_commands vectors_usage) run_usage
 
+-- the program with the commands for recordings and schedules
+abbrev pub with_audit : App
+with_audit = with_subcommand (with_subcommand (with_subcommand with_file_commands recording_usage) chart_usage) audit_usage
+
 -- the command line
 abbrev pub cli : App
-cli = with_subcommand (with_subcommand (with_subcommand (with_subcommand with_file_commands recording_usage) chart_usage) audit_usage) explore_usage
+cli = with_subcommand (with_subcommand with_audit explore_usage) extract_usage
 
 -- ---- what words ask for
 
@@ -217,6 +230,13 @@ pub record ExploreRequest : Type 0 where
   pub never : List Text
   pub progress : Bool
 
+-- the options of `extract`
+pub record ExtractRequest : Type 0 where
+  pub packets : PacketRequest
+  pub choice : ChoiceRequest
+  pub ports : Option Text
+  pub service : Option Text
+
 -- a command, without where its words lie in memory
 pub data Request : Type 0 where
   show_request : Text → Option Text → Option Text → Bool → Request
@@ -228,6 +248,7 @@ pub data Request : Type 0 where
   chart_request : Text → Text → Request
   audit_request : List Text → AuditRequest → Request
   explore_request : (setup moves goal : Text) → ExploreRequest → Request
+  extract_request : List Text → ExtractRequest → Request
 
 abbrev pub text_at : Option (Bor Text) → Option Text
 text_at text = option_map (λ t. t.now) text
@@ -288,6 +309,9 @@ asked_by_explore_options o = record {
   progress = o.progress;
 }
 
+abbrev pub asked_by_extract_options : ExtractOptions → ExtractRequest
+asked_by_extract_options o = record { packets = asked_by_packets o.packets; choice = asked_by_choice o.choice; ports = text_at o.ports; service = text_at o.service }
+
 -- what a command asks for
 abbrev pub asked_by_command : Command → Request
 asked_by_command (Show capture service types json) = show_request capture.now (text_at service) (text_at types) json
@@ -299,6 +323,7 @@ asked_by_command (Recording files options) = recording_request (texts_at files.i
 asked_by_command (Chart setup schedule) = chart_request setup.now schedule.now
 asked_by_command (Audit files options) = audit_request (texts_at files.items) (asked_by_audit_options options)
 asked_by_command (Explore setup moves goal options) = explore_request setup.now moves.now goal.now (asked_by_explore_options options)
+asked_by_command (Extract files options) = extract_request (texts_at files.items) (asked_by_extract_options options)
 
 -- an option without a value is on where it was given: then its value is that of true
 abbrev pub is_on : Option Text → Bool
@@ -435,6 +460,17 @@ asked_by_explore value values =
     (λ setup. option_and_then (λ moves. option_map (λ goal. explore_request setup moves goal (explore_options_by value values)) (value (codes "goal"))) (value (codes "moves")))
     (value (codes "setup"))
 
+-- the options of `extract`, by what each matched
+abbrev pub extract_options_of : PacketRequest → ChoiceRequest → (ports service : Option Text) → ExtractRequest
+extract_options_of packets choice ports service = record { packets = packets; choice = choice; ports = ports; service = service }
+
+abbrev pub extract_options_by : (Text → Option Text) → ExtractRequest
+extract_options_by value = extract_options_of (packet_options_by value) (choice_options_by value) (value (codes "ports")) (value (codes "service"))
+
+-- what `extract` asks for
+abbrev pub asked_by_extract : (Text → Option Text) → (Text → List Text) → Option Request
+asked_by_extract value values = option_map (λ file. extract_request (values (codes "file")) (extract_options_by value)) (value (codes "file"))
+
 -- what a subcommand asks for, by its name and the values of its arguments and options: the first of each, and all
 abbrev pub asked_by_subcommand : Text → (Text → Option Text) → (Text → List Text) → Option Request
 asked_by_subcommand name value values =
@@ -446,7 +482,8 @@ asked_by_subcommand name value values =
     else (if bytes_eq name (codes "recording") then asked_by_recording value values
     else (if bytes_eq name (codes "chart") then asked_by_chart value
     else (if bytes_eq name (codes "audit") then asked_by_audit value values
-    else (if bytes_eq name (codes "explore") then asked_by_explore value values else None))))))))
+    else (if bytes_eq name (codes "explore") then asked_by_explore value values
+    else (if bytes_eq name (codes "extract") then asked_by_extract value values else None)))))))))
 
 -- what the subcommand that was entered asks for, where one was
 abbrev pub asked_by_entered : Option (Text × List Row) → Option Request

@@ -12,6 +12,7 @@ ghost use Rattle.someipctl_cli.specs.CommandLine.{is_on, packet_options_by, reco
 ghost use Rattle.someipctl_cli.specs.CommandLine.{setting_options_by, texts_at, texts_of, values_of};
 
 use crate::explore_words::{ExploreOptions, explore_matched};
+use crate::extract_words::{ExtractOptions, extract_matched};
 use crate::grammar::definition;
 use clap::ArgMatches;
 use clap::error::ErrorKind;
@@ -101,6 +102,13 @@ pub enum Command<'w> {
         goal: &'w str,
         /// What is tried, and what is asked of the lines before.
         options: ExploreOptions<'w>,
+    },
+    /// Write the packets of datagrams of recordings of network traffic.
+    Extract {
+        /// Their paths, as they were given.
+        files: Vec<&'w str>,
+        /// Which datagrams are asked for.
+        options: ExtractOptions<'w>,
     },
 }
 
@@ -300,6 +308,7 @@ fn matched_under<'w>(
         "chart" => Ok(chart_matched(rest)),
         "audit" => audit_matched(alloc, rest),
         "explore" => explore_matched(alloc, rest),
+        "extract" => extract_matched(alloc, rest),
         _ => Ok(None),
     }
 }
@@ -375,7 +384,10 @@ fn recording_matched<'w>(
 }
 
 /// The paths that stand behind a command which takes one or more.
-fn files_matched<'w>(alloc: Global, matches: &ArgMatches<'w>) -> Result<Vec<&'w str>, AllocError>
+pub(crate) fn files_matched<'w>(
+    alloc: Global,
+    matches: &ArgMatches<'w>,
+) -> Result<Vec<&'w str>, AllocError>
     ensures { IfOk result (λ files. texts_at files.items ≡ values_of (found_of matches.now) (codes "file")) }
 {
     match matches.get_strs("file") {
@@ -384,7 +396,7 @@ fn files_matched<'w>(alloc: Global, matches: &ArgMatches<'w>) -> Result<Vec<&'w 
     }
 }
 
-fn packets_matched<'w>(matches: &ArgMatches<'w>) -> PacketOptions<'w>
+pub(crate) fn packets_matched<'w>(matches: &ArgMatches<'w>) -> PacketOptions<'w>
     ensures { asked_by_packets result ≡ packet_options_by (first_value (found_of matches.now)) }
 {
     PacketOptions {
@@ -394,7 +406,7 @@ fn packets_matched<'w>(matches: &ArgMatches<'w>) -> PacketOptions<'w>
     }
 }
 
-fn choice_matched<'w>(matches: &ArgMatches<'w>) -> ChoiceOptions<'w>
+pub(crate) fn choice_matched<'w>(matches: &ArgMatches<'w>) -> ChoiceOptions<'w>
     ensures { asked_by_choice result ≡ choice_options_by (first_value (found_of matches.now)) }
 {
     ChoiceOptions {

@@ -172,3 +172,14 @@ pub(crate) const CHART_EXAMPLE: &str = "\
 SETUP and SCHEDULE are those of `run`. The picture goes to standard output. So the call
   someipctl chart examples/runs/two.toml examples/runs/two.txt > two.svg
 writes a picture of that run, which a browser shows.";
+
+/// Of `extract`.
+pub(crate) const EXTRACT_EXAMPLE: &str = "\
+FILE and the options are those of `recording`, which prints the datagrams that are written here. What is
+written is pcapng: the packets of these datagrams, byte for byte, with their times; of a datagram that
+came in fragments all of them. So the call
+  someipctl extract --ports 30509 examples/one.pcap > part.pcapng
+writes the packet of which `someipctl recording part.pcapng` prints
+  1 message 1234.0421 length 8 client 0001 session 0001 interface 01 type REQUEST code 00 payload -
+What a file of pcapng can't say is told on standard error: a packet whose block would have more than
+16 MiB is left out, and the time of one without a time is 0.";

@@ -17,6 +17,7 @@ use crate::examples::{
     RECORDING_EXAMPLE, RUN_EXAMPLE, SHOW_EXAMPLE, VECTORS_EXAMPLE,
 };
 use crate::explore_words::explore_definition;
+use crate::extract_words::extract_definition;
 use clap::{Arg, ArgAction};
 use std::alloc::{AllocError, Global};
 
@@ -32,7 +33,8 @@ pub(crate) fn definition<'d>(alloc: Global) -> Result<clap::Command<'d>, AllocEr
     let recording = adding(run, recording_definition(alloc));
     let chart = adding(recording, chart_definition(alloc));
     let audit = adding(chart, audit_definition(alloc));
-    adding(audit, explore_definition(alloc))
+    let explore = adding(audit, explore_definition(alloc));
+    adding(explore, extract_definition(alloc))
 }
 
 /// A command with a further one below it, where both are there.
@@ -338,7 +340,7 @@ fn add_heads<'d>(
 
 /// The command with the options that choose by addresses, client and times, and with that which learns
 /// endpoints.
-fn add_choice<'d>(
+pub(crate) fn add_choice<'d>(
     alloc: Global,
     command: Result<clap::Command<'d>, AllocError>,
 ) -> Result<clap::Command<'d>, AllocError>
@@ -378,7 +380,7 @@ fn add_choice<'d>(
 }
 
 /// The command with the options that choose packets.
-fn add_packets<'d>(
+pub(crate) fn add_packets<'d>(
     alloc: Global,
     command: Result<clap::Command<'d>, AllocError>,
 ) -> Result<clap::Command<'d>, AllocError>
@@ -476,7 +478,7 @@ fn explained<'d>(alloc: Global, name: &'d str, value_name: &'d str, help: &'d st
 }
 
 /// The paths of recordings, of which a call has one or more.
-fn files<'d>(alloc: Global) -> Arg<'d>
+pub(crate) fn files<'d>(alloc: Global) -> Arg<'d>
     ensures rule { rule_of result ≡ required_many (codes "file") }
     ensures local { result.global ≡ false }
 {

@@ -1,8 +1,8 @@
 //! The command line of `someipctl`: what its words ask for, and how the program ends.
 //!
 //! What a command reads, does and prints stands in `someipctl_show`, of `recording` and `audit` in
-//! `someipctl_recordings`, and of `run` and `chart` in `someipctl_run`, of `explore` in
-//! `someipctl_explore`.
+//! `someipctl_recordings`, of `extract` in `someipctl_extract`, of `run` and `chart` in `someipctl_run`, and of
+//! `explore` in `someipctl_explore`.
 //!
 //! - `command`, `help`: what the words ask for, and the answer to others;
 //! - `grammar`: the commands with their arguments, as `clap` is told of them;
@@ -10,7 +10,7 @@
 //! - `program`: the words, and the exit status;
 //! - `options`, `source`: what options ask for, and the files that are named;
 //! - `error_writer`: standard error, as a writer;
-//! - `explore_words`: the words of `explore`;
+//! - `explore_words`, `extract_words`: the words of `explore` and of `extract`;
 //! - `recordings`, `runs`, `explorations`: the commands over recordings, and over setups;
 //! - `failure`: why the program failed, with its exit status and its text;
 //! - `laws`: what the definitions behind the contracts promise.
@@ -25,6 +25,7 @@ mod error_writer;
 mod examples;
 mod explorations;
 mod explore_words;
+mod extract_words;
 mod failure;
 mod grammar;
 mod help;
@@ -39,6 +40,7 @@ pub use command::{
     AuditOptions, ChoiceOptions, Command, LineError, PacketOptions, RecordingOptions, command_of,
 };
 pub use explore_words::ExploreOptions;
+pub use extract_words::ExtractOptions;
 pub use failure::{Failure, OptionName, Refusal};
 pub use help::answer_error;
 pub use program::{answer, report, run, words_of};

@@ -1,10 +1,12 @@
-//! The commands over recordings: `recording` and `audit`.
+//! The commands over recordings: `recording`, `audit` and `extract`.
 use crate::command::{AuditOptions, RecordingOptions};
+use crate::extract_words::ExtractOptions;
 use crate::failure::{Failure, Refusal};
 use crate::options::{SharedOptions, line_form, selection_of, whole_of};
 use crate::source::{open_sources, rules_at, types_at};
 use recording_packets::LeftOut;
 use someip_tp::IntervalPool;
+use someipctl_extract::{Losses, extract_recording};
 use someipctl_io::Outcome;
 use someipctl_recordings::audit::{AuditAsked, rules_in, show_audit};
 use someipctl_recordings::{
@@ -17,6 +19,8 @@ use std::rt::Files;
 const RECORDING_USAGE: &str = "recording [OPTIONS] <FILE>...";
 
 const AUDIT_USAGE: &str = "audit [OPTIONS] <FILE>...";
+
+const EXTRACT_USAGE: &str = "extract [OPTIONS] <FILE>...";
 
 /// Shows recordings, and then tells on standard error what was left out of them, and their fault, if they have
 /// one. Whatever is wrong with the options is told before a file is looked at, and whatever is wrong with the
@@ -121,6 +125,64 @@ fn audit_wanted<'p, R: Files + Print + Eprint + Input + AllocGlobal>(
         &mut writer,
     );
     end_recording(rt, paths, shown)
+}
+
+/// Writes the packets of recordings that are asked for, and then tells on standard error what was left out, what the
+/// packets lose, and the fault of the recordings, if they have one. Whatever is wrong with the options is told before
+/// a recording is looked at.
+pub(crate) fn extract_recorded<'p, R: Files + Print + Eprint + Input + AllocGlobal>(
+    rt: &R,
+    paths: &[&'p str],
+    options: ExtractOptions<'p>,
+) -> Result<Outcome, Failure<'p>> {
+    let selection = selection_of(
+        rt,
+        SharedOptions {
+            usage: EXTRACT_USAGE,
+            ports: options.ports,
+            service: options.service,
+            packets: options.packets,
+            choice: options.choice,
+        },
+    )?;
+    extract_wanted(rt, paths, selection.wanted())
+}
+
+/// The same, where what is asked for is right.
+fn extract_wanted<'p, R: Files + Print + Eprint + Input + AllocGlobal>(
+    rt: &R,
+    paths: &[&'p str],
+    wanted: Wanted<'_>,
+) -> Result<Outcome, Failure<'p>> {
+    let mut sources = open_sources(rt, paths)?;
+    let mut writer = io::writer(rt);
+    match extract_recording(rt.alloc(), sources.as_mut_slice(), &wanted, &mut writer) {
+        Ok(done) => {
+            tell_left_out(rt, &done.left_out);
+            tell_losses(rt, &done.losses);
+            let shown = ShownRecording {
+                outcome: Outcome::Done,
+                left_out: done.left_out,
+                is_full: done.is_full,
+                fault: done.fault,
+            };
+            end_recording(rt, paths, Ok(shown))
+        }
+        Err(stopped) => Err(stopped_at(paths, stopped)),
+    }
+}
+
+/// Tells what the packets lose that were extracted, if they lose anything.
+fn tell_losses<R: Eprint>(rt: &R, losses: &Losses) {
+    if losses.long_packets {
+        let _ = eprintln!(rt; "extract: left out packets of more than 16 MiB");
+    }
+    if losses.times {
+        let _ = eprintln!(rt; "extract: packets without a time have the time 0");
+    }
+    if losses.datagrams {
+        let _ = eprintln!(rt; "extract: left out datagrams with more than 512 KiB of fragments");
+    }
 }
 
 /// Tells what was left out of recordings, if anything was.

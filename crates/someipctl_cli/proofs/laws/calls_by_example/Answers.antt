@@ -24,6 +24,7 @@ returns c = record {
   audit_choice = refl;
   audit_group = refl;
   audit_options = refl;
+  extract = refl;
   bare_expect = ((λ e. cc), inl refl);
   twice = ((λ e. cc), inl refl);
   bare = ((λ e. cc), inl refl);
