@@ -29,4 +29,4 @@ returns-clause-watched g c =
 
 pub returns-in_err-explored-clause-watched : goal.returns-in_err-explored-clause-watched
 returns-in_err-explored-clause-watched g c =
-    watched_until g.W.Watcher.hears (judged_count c.args.limits) c.from_residual.result c.args.watcher.now c.search_up_to.new.watcher c.from_residual.ensures.0 c.in_err-explored.ensures.watched
+    watched_until g.W.Watcher.hears (judged_count c.args.limits) c.from_residual-in_err-explored.result c.args.watcher.now c.search_up_to.new.watcher c.from_residual-in_err-explored.ensures.0 c.in_err-explored.ensures.watched
