@@ -21,10 +21,12 @@ use Rattle.someip_tables.proofs.ChangedLemmas.{get-changed}
 use Rattle.someip_tables.proofs.Entries.{entries_distinct, get-retain, none_found, own_test, same_by_test}
 use Rattle.audit_services.specs.declared.stay.Ended.{Ended}
 use Rattle.audit_services.specs.declared.stay.Interval.{Interval}
+use Rattle.audit_services.specs.declared.shown.Shown.{Shown}
+use Rattle.audit_services.specs.declared.shown.Shown.TheVariants.{KeyBegins, KeyEnds, PlaceEnds, PlaceGoesOn}
 use Rattle.audit_services.specs.declared.why.Why.{Why}
 use Rattle.audit_services.specs.declared.why.Why.TheVariants.{Expired, Moved}
 use Rattle.audit_services.specs.Books.{Book, IsFirstDeadline, after_begun, begun, is_same, renewed, told_begun, told_moved, told_of}
-use Rattle.audit_services.specs.Histories.{Event, Expires, KeyBegins, KeyEnds, PlaceEnds, PlaceGoesOn, Shown, Tells, book_after, change_of, intervals_under, timeline, told_by}
+use Rattle.audit_services.specs.Histories.{Event, Expires, Tells, book_after, change_of, intervals_under, timeline, told_by}
 use Rattle.audit_services.specs.Places.{is_among}
 use Rattle.audit_services.specs.Stays.{Stay, Stays, all_ended, ended_of, interval_of, lasting_until}
 use Rattle.audit_services.proofs.BookLemmas.{the_book}

@@ -99,8 +99,9 @@ after_renewed Q places now place ttl book = record book { stays = each_changed (
 abbrev pub IsFirstDeadline : {K V : Type 0} {R : K → K → Ordering} → ℕ → Stays R V → Type 0
 IsFirstDeadline at stays = (expired at stays ≡ finite.empty → ⊥) × ((earlier : ℕ) → earlier < at → expired earlier stays ≡ finite.empty)
 
--- what has the first deadline is told, if that has come, and stands no more; else nothing has expired, and nothing changes
-abbrev pub ExpiresFirst : {K V : Type 0} {R : K → K → Ordering} → ℕ → Bool → List (Ended K V) → List (Ended K V) → Book R V → Book R V → Type 0
-ExpiresFirst now true before after book left =
-    (at : ℕ) × (at ≤ now) × IsFirstDeadline at book.stays × (after ≡ before ++ all_ended Expired at (expired at book.stays)) × (left ≡ record book { stays = unexpired at book.stays })
-ExpiresFirst now false before after book left = (expired now book.stays ≡ finite.empty) × (after ≡ before) × (left ≡ book)
+-- what has expired by a moment is told as ended then, and stands no more
+abbrev pub told_expired : {K V : Type 0} {R : K → K → Ordering} → ℕ → Book R V → List (Ended K V)
+told_expired at book = all_ended Expired at (expired at book.stays)
+
+abbrev pub after_expired : {K V : Type 0} {R : K → K → Ordering} → ℕ → Book R V → Book R V
+after_expired at book = record book { stays = unexpired at book.stays }

@@ -1,26 +1,21 @@
 -- What a recording shows of keys and places, and what a book tells of it. A list of events has the newest first.
-use Rattle.std.specs.Prelude.{◌≡◌, ◌≤◌, ℕ, zero, suc, if◌then◌else◌, List, [], ◌∷◌, ◌++◌, filter, map}
+use Rattle.std.specs.Prelude.{◌≡◌, ◌≤◌, ℕ, zero, suc, Bool, false, if◌then◌else◌, List, [], ◌∷◌, ◌++◌, filter, map}
 use Rattle.std.specs.declared.cmp.Ordering.{Ordering}
 use Rattle.std.specs.Ordering.{eq_by_cmp}
 use Rattle.std.specs.FinMap as finite
 use Rattle.someip_tables.specs.Lastings.{expired, unexpired}
 use Rattle.audit_services.specs.declared.stay.Ended.{Ended}
 use Rattle.audit_services.specs.declared.stay.Interval.{Interval}
+use Rattle.audit_services.specs.declared.shown.Shown.{Shown}
+use Rattle.audit_services.specs.declared.shown.Shown.TheVariants.{KeyBegins, KeyEnds, PlaceEnds, PlaceGoesOn}
 use Rattle.audit_services.specs.declared.why.Why.{Why}
 use Rattle.audit_services.specs.declared.why.Why.TheVariants.{Expired}
-use Rattle.audit_services.specs.Books.{Book, IsFirstDeadline, after_begun, after_ended, after_ended_at, after_renewed, book_begun, told_begun, told_ended, told_ended_at}
+use Rattle.audit_services.specs.Books.{Book, IsFirstDeadline, after_begun, after_ended, after_ended_at, after_renewed, begins_full, book_begun, told_begun, told_ended, told_ended_at}
 use Rattle.audit_services.specs.Places.{is_among}
 use Rattle.audit_services.specs.Stays.{all_ended}
 use Rattle.audit_services.specs.Timelines.{Begins, Change, Changed, Ends, GoesOn, Leaves}
 
--- a value stands under a key for a TTL in seconds; a key ends; all at a place ends; all at a place goes on for a TTL
-pub data Shown (P K V : Type 0) : Type 0 where
-  KeyBegins : K → V → ℕ → Shown P K V
-  KeyEnds : K → Why → Shown P K V
-  PlaceEnds : P → Why → Shown P K V
-  PlaceGoesOn : P → ℕ → Shown P K V
-
--- at a moment
+-- what is shown of keys and places at a moment
 pub record Event (P K V : Type 0) : Type 0 where
   pub at : ℕ
   pub shown : Shown P K V
@@ -53,6 +48,13 @@ module _ {P K V : Type 0} (Q : P → P → Ordering) (R : K → K → Ordering) 
   told_by now (KeyEnds key why) book = told_ended why now key book
   told_by now (PlaceEnds place why) book = told_ended_at Q places why now place book
   told_by now (PlaceGoesOn place ttl) book = []
+
+  -- that it has no room for a key is told for the first time
+  abbrev pub full_by : Shown P K V → Book R V → Bool
+  full_by (KeyBegins key value ttl) book = begins_full key book
+  full_by (KeyEnds key why) book = false
+  full_by (PlaceEnds place why) book = false
+  full_by (PlaceGoesOn place ttl) book = false
 
   -- the book was asked so often for what expired by a moment, until nothing was left
   abbrev pub Expires : ℕ → ℕ → Book R V → List (Ended K V) → Book R V → Type 0

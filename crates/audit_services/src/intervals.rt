@@ -1,15 +1,16 @@
 //! What stands under keys, and the intervals of what ended.
-ghost use Rattle.std.specs.Prelude.{◌≡◌, ◌≢◌, ◌≤◌, ◌++◌, if◌then◌else◌, IfOk, OnErr, OnOk};
+ghost use Rattle.std.specs.Prelude.{◌≡◌, ◌≢◌, ◌++◌, if◌then◌else◌, IfOk, OnErr, OnOk};
 ghost use Rattle.std.specs.FinMap as finite;
-ghost use Rattle.std.specs.Option.{SomeIff};
 ghost use Rattle.someip_tables.specs.Waits.{HoldsFrom};
 ghost use Rattle.someip_tables.specs.Lastings.{expired};
 ghost use Rattle.someip_tables.specs.Tables.{map_of};
-ghost use Rattle.audit_services.specs.Books.{ExpiresFirst, is_same, since_of, after_begun, after_ended, after_ended_at, after_renewed, begins_full, book_begun, book_of};
-ghost use Rattle.audit_services.specs.Books.{told_begun, told_ended, told_ended_at, told_moved};
+ghost use Rattle.audit_services.specs.Books.{after_expired, is_same, since_of, after_begun, after_ended, after_ended_at, after_renewed, begins_full, book_begun, book_of};
+ghost use Rattle.audit_services.specs.Books.{told_begun, told_ended, told_ended_at, told_expired, told_moved};
+ghost use Rattle.audit_services.specs.Histories.{book_after, full_by, told_by};
 ghost use Rattle.audit_services.specs.Stays.{IsBegun, all_ended};
 
 use crate::placed::Placed;
+use crate::shown::Shown;
 use crate::stay::{Ended, Since};
 use crate::table::Table;
 use crate::why::Why;
@@ -46,6 +47,30 @@ impl<P: Key, K: Placed<P>, V: Key> Intervals<P, K, V> {
             room: Room::new(limit),
             table: Table::new(alloc),
         }
+    }
+
+    /// Takes what is shown, and appends the intervals of what it ends. Says whether there is no room for a key, and
+    /// that was not told before. Where memory runs out, nothing is promised.
+    pub fn take(
+        &mut self,
+        alloc: Global,
+        now: Moment,
+        shown: Shown<P, K, V>,
+        ended: &mut Vec<Ended<K, V>>,
+    ) -> Result<bool, AllocError>
+        ensures full { IfOk result (λ full. full ≡ full_by P.cmp K.cmp V.cmp K.places shown (book_of K.cmp self.old)) }
+        ensures told { OnOk result (ended.new.items
+            ≡ ended.old.items ++ told_by P.cmp K.cmp V.cmp K.places now shown (book_of K.cmp self.old)) }
+        ensures after { OnOk result (book_of K.cmp self.new
+            ≡ book_after P.cmp K.cmp V.cmp K.places now shown (book_of K.cmp self.old)) }
+    {
+        match shown {
+            Shown::KeyBegins(key, value, ttl) => return self.begin(now, key, value, ttl, ended),
+            Shown::KeyEnds(key, why) => self.end(now, &key, why, ended)?,
+            Shown::PlaceEnds(place, why) => self.end_at(alloc, now, place, why, ended)?,
+            Shown::PlaceGoesOn(place, ttl) => self.renew(alloc, now, place, ttl)?,
+        }
+        Ok(false)
     }
 
     /// A value stands under a key until a TTL in seconds has passed. Where the same stood, it goes on; another value
@@ -121,29 +146,24 @@ impl<P: Key, K: Placed<P>, V: Key> Intervals<P, K, V> {
             .renew_at(alloc, place, Deadline::after_ttl(now, ttl))
     }
 
-    /// What expires first ends, if its deadline has come: all that has the first deadline, by rising key. Says
-    /// whether something did. Whoever goes over a recording asks until nothing is left, with the moment of each
-    /// datagram and before it. Where memory runs out, a beginning of what is to be told was appended, and nothing
-    /// else is promised.
-    pub fn expire_first(
+    /// All whose deadline has come by a moment ends then, and the intervals are appended by rising key. Whoever goes
+    /// over a recording asks with each deadline of [`Intervals::next_due`] in turn, up to the moment of each datagram
+    /// and before it. Where memory runs out, a beginning of what is to be told was appended, and nothing else is
+    /// promised.
+    pub fn expire(
         &mut self,
         alloc: Global,
-        now: Moment,
+        at: Moment,
         ended: &mut Vec<Ended<K, V>>,
-    ) -> Result<bool, AllocError>
-        ensures { IfOk result (λ has_expired. ExpiresFirst now has_expired ended.old.items ended.new.items (book_of K.cmp self.old) (book_of K.cmp self.new)) }
+    ) -> Result<(), AllocError>
+        ensures told { OnOk result (ended.new.items ≡ ended.old.items ++ told_expired at (book_of K.cmp self.old)) }
+        ensures after { OnOk result (book_of K.cmp self.new ≡ after_expired at (book_of K.cmp self.old)) }
+        ensures err { OnErr result (IsBegun ended.old.items ended.new.items (told_expired at (book_of K.cmp self.old))) }
     {
-        let Some(at) = self.next_due() else {
-            return Ok(false);
-        };
-        let Some(moment) = passed(at, now) else {
-            return Ok(false);
-        };
-        self.table.expire(alloc, moment, ended)?;
-        Ok(true)
+        self.table.expire(alloc, at, ended)
     }
 
-    /// When [`Intervals::expire_first`] next tells an interval, in milliseconds: the first deadline, if one passes.
+    /// When something next expires, in milliseconds: the first deadline, if one passes.
     pub fn next_due(&self) -> Option<u64>
         ensures { HoldsFrom result (λ now. expired now (book_of K.cmp self.now).stays ≢ finite.empty) }
     {
@@ -199,16 +219,5 @@ fn is_same<V: Key>(stood: &Option<Lasting<Since<V>>>, value: &V) -> bool
     match stood {
         Some(stay) => is_same_key(&stay.value.value, value),
         None => false,
-    }
-}
-
-/// The moment of a deadline, if it has come.
-fn passed(at: u64, now: Moment) -> Option<Moment>
-    ensures { SomeIff result (at ≤ now) at }
-{
-    if at <= now.as_millis() {
-        Moment::new(at)
-    } else {
-        None
     }
 }

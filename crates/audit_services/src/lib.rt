@@ -1,7 +1,7 @@
 //! Who offered what in a recording and when, and which client was subscribed to what.
 //!
 //! - [`Intervals`]: what stands under keys, and the intervals of what ended; [`Ended`], [`Interval`], [`Since`],
-//!   [`Why`]; [`Placed`]: at which places a key is, which end what is there;
+//!   [`Why`]; [`Shown`]: what changes it; [`Placed`]: at which places a key is, which end what is there;
 //! - [`Offered`] and [`Subscribed`]: the keys of offers and of subscriptions; [`OfferTerms`], [`NoTerms`]: what stands
 //!   under them; [`Place`], with [`OfferPlace`] and [`Asked`]: where subscriptions are, or [`all_of`] an address;
 //! - [`laws`]: which intervals a history has.
@@ -14,6 +14,7 @@ mod intervals;
 pub mod laws;
 mod offered;
 mod placed;
+mod shown;
 mod stay;
 mod subscribed;
 mod table;
@@ -22,6 +23,7 @@ mod why;
 pub use intervals::Intervals;
 pub use offered::{OfferTerms, Offered};
 pub use placed::Placed;
+pub use shown::Shown;
 pub use stay::{Ended, Interval, Since};
 pub use subscribed::{Asked, NoTerms, OfferPlace, Place, Subscribed, all_of};
 pub use why::Why;
