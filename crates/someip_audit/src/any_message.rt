@@ -82,15 +82,15 @@ impl<S: Reassembly> Books<S> {
     }
 }
 
-/// Whether a message is one of Service Discovery.
-pub(crate) fn is_sd(origin: &Origin, header: &Header) -> bool
+/// Whether a message is one of Service Discovery: it has the header of one, and goes from or to port 30490.
+pub fn is_sd(origin: &Origin, header: &Header) -> bool
     ensures { result ≡ is_sd origin.now header.now }
 {
     is_at_discovery(origin) && header.is_discovery()
 }
 
-/// Reads a payload, and keeps want of memory apart.
-pub(crate) fn read_payload(
+/// Reads the payload of a message of Service Discovery, and keeps want of memory apart from its faults.
+pub fn read_payload(
     alloc: Global,
     payload: &[u8],
 ) -> Result<Result<SdRead, SdError>, AllocError>

@@ -17,8 +17,8 @@ use someip_tables::Moment;
 use someip_tables::hashed::Origin;
 use std::net::SocketAddrV4;
 
-/// A message of Service Discovery, as far as its sessions go.
-pub(crate) fn sd_message(now: Moment, origin: &Origin, session: u16, flags: SdFlags) -> SdMessage
+/// A message of Service Discovery with this session and these flags, as far as its sessions go.
+pub fn sd_message(now: Moment, origin: &Origin, session: u16, flags: SdFlags) -> SdMessage
     ensures { result ≡ sd_message now origin.now session flags }
 {
     SdMessage {

@@ -4,6 +4,7 @@
 //!   [`WatchRules`]: which datagrams are looked at;
 //! - [`Learner`]: the endpoints that a recording names, and which datagrams are looked at for them, where nothing
 //!   is audited;
+//! - [`is_sd`], [`read_payload`], [`sd_message`]: messages of Service Discovery, for whatever else goes over them;
 //! - [`groups`]: findings of one group, of which the first three are told;
 //! - [`Finding`]: what a datagram shows; [`FellDue`]: what falls due between datagrams;
 //! - [`laws`]: the definitions behind the contracts, by example.
@@ -27,7 +28,9 @@ mod soonest;
 mod times;
 mod watched;
 
+pub use any_message::{is_sd, read_payload};
 pub use audit::Audit;
+pub use entries::sd_message;
 pub use fell_due::FellDue;
 pub use finding::{Finding, ServiceInstance};
 pub use learner::Learner;
