@@ -22,7 +22,7 @@ use Rattle.someip_tables.proofs.Entries.{entries_distinct, get-retain, none_foun
 use Rattle.audit_services.specs.declared.stay.Ended.{Ended}
 use Rattle.audit_services.specs.declared.stay.Interval.{Interval}
 use Rattle.audit_services.specs.declared.shown.Shown.{Shown}
-use Rattle.audit_services.specs.declared.shown.Shown.TheVariants.{KeyBegins, KeyEnds, PlaceEnds, PlaceGoesOn}
+use Rattle.audit_services.specs.declared.shown.Shown.TheVariants.{KeyBegins, KeyEnds, Nothing, PlaceEnds, PlaceGoesOn}
 use Rattle.audit_services.specs.declared.why.Why.{Why}
 use Rattle.audit_services.specs.declared.why.Why.TheVariants.{Expired, Moved}
 use Rattle.audit_services.specs.Books.{Book, IsFirstDeadline, after_begun, begun, is_same, renewed, told_begun, told_moved, told_of}
@@ -88,7 +88,7 @@ module _ {K V : Type 0} {R : K → K → Ordering} (o : IsTotalOrder R) (exact :
   -- ---- what has expired
 
   -- nothing has: what stands has not passed
-  none_passed : (now : ℕ) (m : Stays R V) (key : K) (stay : Stay V) → expired now m ≡ empty → get m key ≡ Some stay → has_passed now stay.until ≡ false
+  pub none_passed : (now : ℕ) (m : Stays R V) (key : K) (stay : Stay V) → expired now m ≡ empty → get m key ≡ Some stay → has_passed now stay.until ≡ false
   none_passed now m key stay none found = cases (has_passed now stay.until) refl
     where
       cases : (b : Bool) → has_passed now stay.until ≡ b → b ≡ false
@@ -98,7 +98,7 @@ module _ {K V : Type 0} {R : K → K → Ordering} (o : IsTotalOrder R) (exact :
           let there : get (expired now m) key ≡ Some stay = get-retain o exact m (λ _ lasting. has_passed now lasting.until) key ∙ ap (kept_if (λ lasting. has_passed now lasting.until)) found ∙ rw is refl in
           absurd (cc)
 
-  unexpired_all : (now : ℕ) (m : Stays R V) → expired now m ≡ empty → unexpired now m ≡ m
+  pub unexpired_all : (now : ℕ) (m : Stays R V) → expired now m ≡ empty → unexpired now m ≡ m
   unexpired_all now m none = same_map o exact _ _ (λ q. get-retain o exact m (λ _ lasting. not (has_passed now lasting.until)) q ∙ cases q (get m q) refl)
     where
       cases : (q : K) (v : Option (Stay V)) → get m q ≡ v → kept_if (λ lasting. not (has_passed now lasting.until)) v ≡ v
@@ -130,11 +130,11 @@ module _ {K V : Type 0} {R : K → K → Ordering} (o : IsTotalOrder R) (exact :
           absurd (cc)
       cases false sooner = let ge = not_le (suc moment) at sooner in omega (arith, ge, le)
 
-  abbrev IsAllGone : ℕ → Book R V → List (Ended K V) → Book R V → Type 0
+  abbrev pub IsAllGone : ℕ → Book R V → List (Ended K V) → Book R V → Type 0
   IsAllGone now book told left =
       (left ≡ record book { stays = unexpired now book.stays }) × ((key : K) → intervals_under R key told ≡ expired_by now (get book.stays key))
 
-  all_gone : {P : Type 0} (Q : P → P → Ordering) (C : V → V → Ordering) (places : K → (P × P) × (P × P)) (now count : ℕ) (book left : Book R V) (told : List (Ended K V))
+  pub all_gone : {P : Type 0} (Q : P → P → Ordering) (C : V → V → Ordering) (places : K → (P × P) × (P × P)) (now count : ℕ) (book left : Book R V) (told : List (Ended K V))
       → Expires Q R C places now count book told left → IsAllGone now book told left
   all_gone Q C places now zero book left told expires =
       (expires.2 ∙ ap (λ s. the_book R book.limit s book.told_full) (sym (unexpired_all now book.stays expires.0)), λ key. ap (intervals_under R key) expires.1 ∙ sym (cases key (get book.stays key) refl))
@@ -185,6 +185,7 @@ module _ {K V : Type 0} {R : K → K → Ordering} (o : IsTotalOrder R) (exact :
         × (intervals_under R key (told_by Q R C places now shown book) ≡ ended_by C now (change_of Q R C places shown key) (get book.stays key)) × (book.told_full ≡ false)
 
     shown_by : (now : ℕ) (shown : Shown P K V) (book : Book R V) (key : K) → (book_after Q R C places now shown book).told_full ≡ false → IsShownBy now shown book key
+    shown_by now Nothing book key full = (refl, refl, full)
     shown_by now (KeyBegins one value ttl) book key full = room (may_hold book.limit book.stays one) refl full
       where
         room : (b : Bool) → may_hold book.limit book.stays one ≡ b

@@ -3,3 +3,4 @@ pub mod PlaceLemmas
 pub mod BookLemmas
 pub mod TimelineLemmas
 pub mod HistoryLemmas
+pub mod DatagramLemmas

@@ -65,6 +65,7 @@ impl<P: Key, K: Placed<P>, V: Key> Intervals<P, K, V> {
             ≡ book_after P.cmp K.cmp V.cmp K.places now shown (book_of K.cmp self.old)) }
     {
         match shown {
+            Shown::Nothing => {}
             Shown::KeyBegins(key, value, ttl) => return self.begin(now, key, value, ttl, ended),
             Shown::KeyEnds(key, why) => self.end(now, &key, why, ended)?,
             Shown::PlaceEnds(place, why) => self.end_at(alloc, now, place, why, ended)?,
