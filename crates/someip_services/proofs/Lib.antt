@@ -1,1 +1,2 @@
 pub mod ServiceLemmas
+pub mod TimelineLemmas

@@ -1,3 +1,4 @@
 pub mod Entries
 pub mod Services
 pub mod Codes
+pub mod ServiceTimelines
