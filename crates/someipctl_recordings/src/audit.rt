@@ -12,12 +12,15 @@ mod lines;
 mod noted;
 mod says;
 mod settings;
-mod subject;
+pub mod subject;
 mod summary;
 mod tally;
 mod unjudged;
 mod weights;
 
 pub use asked::AuditAsked;
-pub use audits::show_audit;
+pub use auditing::SeenDatagram;
+pub use audits::{seen_next, show_audit};
+pub use lines::time_at;
 pub use settings::{SettingError, SettingTexts, rules_in};
+pub use unjudged::put_headless;

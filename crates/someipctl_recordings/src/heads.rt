@@ -194,7 +194,7 @@ pub(crate) fn asked_fields<'f>(heads: Heads, fields: &'f [Field<'f>; 4]) -> &'f 
 }
 
 /// A field.
-pub(crate) fn field_of<'f>(lead: &'f str, key: &'f str, said: Said<'f>) -> Field<'f>
+pub fn field_of<'f>(lead: &'f str, key: &'f str, said: Said<'f>) -> Field<'f>
     ensures { view_field result ≡ field lead.now key.now (view_said said.entry) }
 {
     Field { lead, key, said }

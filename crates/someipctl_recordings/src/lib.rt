@@ -38,4 +38,4 @@ mod wanted;
 pub use asked::{Asked, Heads, WholeLimits};
 pub use limits::{LimitsError, limits_in, number_or, number_within};
 pub use recordings::{FileFault, ShownRecording, StoppedAt, show_recording};
-pub use wanted::Wanted;
+pub use wanted::{Wanted, is_in_span};

@@ -93,7 +93,7 @@ fn address_of(endpoint: Endpoint) -> u32
 }
 
 /// Whether a time is not before one and before another, where they are named.
-pub(crate) fn is_in_span(from: Option<Time>, until: Option<Time>, time: Option<Time>) -> bool
+pub fn is_in_span(from: Option<Time>, until: Option<Time>, time: Option<Time>) -> bool
     ensures { result ≡ is_in_span from until time }
 {
     if from.is_none() && until.is_none() {

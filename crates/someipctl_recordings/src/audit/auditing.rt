@@ -25,15 +25,15 @@ use std::io::Write;
 
 /// A datagram of a recording, as an audit sees it.
 #[derive(Clone, Copy)]
-pub(crate) struct SeenDatagram<'d> {
+pub struct SeenDatagram<'d> {
     /// Its time of the recording.
-    pub(crate) time: Option<Time>,
+    pub time: Option<Time>,
     /// Its moment.
-    pub(crate) now: Moment,
+    pub now: Moment,
     /// Its numbers and its endpoints.
-    pub(crate) origin: Origin,
+    pub origin: Origin,
     /// Its bytes.
-    pub(crate) bytes: &'d [u8],
+    pub bytes: &'d [u8],
 }
 
 /// Prints what is told of a datagram: what fell due by its moment, and then what it shows. `findings` is

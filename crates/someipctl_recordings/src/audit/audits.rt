@@ -264,7 +264,7 @@ fn put_datagram<S: Reassembly + Drop, W: Write>(
 }
 
 /// The next datagram, where so many came before it, the latest at this moment.
-fn seen_next<'d>(count: usize, latest: Moment, arrival: &Arrival<'d>) -> SeenDatagram<'d>
+pub fn seen_next<'d>(count: usize, latest: Moment, arrival: &Arrival<'d>) -> SeenDatagram<'d>
     requires { count + 1 < 2 ^ 64 }
     ensures seen { view_seen result ≡ seen_next count latest (view_arrival arrival.now) }
     ensures time { result.time ≡ arrival.now.datagram.time }

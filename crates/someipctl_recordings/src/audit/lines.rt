@@ -162,7 +162,7 @@ fn is_allowed(bench: &Rules, key: &GroupKey) -> bool
 }
 
 /// A moment, in milliseconds since 1970, as a time.
-fn time_at(millis: u64) -> Time
+pub fn time_at(millis: u64) -> Time
     ensures { result ≡ time_at millis }
 {
     Time {

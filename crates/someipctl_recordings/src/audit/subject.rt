@@ -18,13 +18,13 @@ use std::net::SocketAddrV4;
 
 /// What a finding is about, as far as it names it.
 #[derive(Clone, Copy, PartialEq, Eq)]
-pub(crate) struct Subject {
+pub struct Subject {
     /// A Service ID.
-    pub(crate) service: Option<u16>,
+    pub service: Option<u16>,
     /// The Method ID or Event ID of the service.
-    pub(crate) method: Option<u16>,
+    pub method: Option<u16>,
     /// The Client ID of a call.
-    pub(crate) client: Option<u16>,
+    pub client: Option<u16>,
 }
 
 impl Subject {
@@ -40,7 +40,7 @@ impl Subject {
     }
 
     /// A service.
-    fn service(service: u16) -> Subject
+    pub fn service(service: u16) -> Subject
         ensures { result ≡ about_service service }
     {
         Subject {
@@ -145,7 +145,8 @@ pub(crate) fn is_told(
         && is_in_span(wanted.from, wanted.until, time)
 }
 
-fn is_of_services(services: Option<&[AskedService]>, subject: &Subject) -> bool
+/// Whether a subject is of one of the services that are asked for; where none is, each is.
+pub fn is_of_services(services: Option<&[AskedService]>, subject: &Subject) -> bool
     ensures { result ≡ is_of_services (option_map (λ s. s.now) services.entry) subject.now }
 {
     match services {
@@ -185,7 +186,8 @@ fn is_named(asked: u16, named: Option<u16>) -> bool
     }
 }
 
-fn is_of_client(client: Option<u16>, subject: &Subject) -> bool
+/// Whether a subject is of the client that is asked for, if one is.
+pub fn is_of_client(client: Option<u16>, subject: &Subject) -> bool
     ensures { result ≡ is_of_client client subject.now }
 {
     match client {

@@ -242,8 +242,8 @@ fn put_one_way<W: Write>(
     put_headless(buffer, writer, form, "one-way", &one_way_fields(way))
 }
 
-/// Prints a line of a kind, which has no head.
-fn put_headless<'l, W: Write>(
+/// Prints a line of a kind, which has no head, in the form that is asked for.
+pub fn put_headless<'l, W: Write>(
     buffer: &mut Buffer,
     writer: &mut W,
     form: Form,
