@@ -1,0 +1,3 @@
+pub mod ServiceLines
+pub mod ChosenLines
+pub mod ServiceText
