@@ -29,7 +29,8 @@ class Header(NamedTuple):
 
 class Entry(NamedTuple):
     """An entry of Service Discovery: its kind is 0 Find, 1 Offer, 6 Subscribe or 7 Ack; its endpoint is that of the
-    first IPv4 UDP endpoint option, or None. One with a bad run has no options."""
+    first IPv4 UDP endpoint option, or None. One with a bad run has no options. Of an Offer the last four bytes are the
+    minor version."""
     kind: int
     service: int
     instance: int
@@ -39,6 +40,7 @@ class Entry(NamedTuple):
     group: int
     endpoint: Optional[tuple]
     has_bad_run: bool = False
+    minor: int = 0
 
 
 class Malformed(Exception):
@@ -182,7 +184,7 @@ def entry_of(text, options):
     chosen = [] if is_bad else [option for index, count in runs for option in options[index:index + count]]
     endpoint = next((option for option in chosen if option is not None), None)
     return Entry(kind, service, instance, version >> 24, version & FOREVER, last >> 16 & 15, last & 0xFFFF, endpoint,
-                 is_bad)
+                 is_bad, last)
 
 
 def discovery_of(payload):

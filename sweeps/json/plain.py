@@ -188,5 +188,19 @@ def judged(line):
     return f"{line['vector']} {line['result']}"
 
 
+SERVED = {
+    "offer": lambda line: f"minor {line['minor']} {line['endpoint']}",
+    "subscription": lambda line: f"group {line['group']} {line['endpoint']} at {line['server']}",
+}
+
+
+def served(line):
+    """A line of `services`."""
+    if line["kind"] == "full":
+        return f"full {line['name']}"
+    return (f"{line['kind']} {line['service']}.{line['instance']} major {line['major']} {SERVED[line['kind']](line)} "
+            f"from {line['since']} until {line['until']} {line['why']}")
+
+
 # By command.
-PLAIN = {"show": shown, "recording": shown, "audit": audited, "run": ran, "vectors": judged}
+PLAIN = {"show": shown, "recording": shown, "audit": audited, "run": ran, "vectors": judged, "services": served}

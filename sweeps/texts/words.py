@@ -38,6 +38,9 @@ HELP = (
     ("someipctl|help|extract", "Writes the packets of the datagrams that are chosen, as a recording\n\n"
      "Usage: someipctl extract [OPTIONS] <FILE>...\n"),
     ("someipctl|help|extract", "  someipctl extract --ports 30509 examples/one.pcap > part.pcapng\n"),
+    ("someipctl|help|services", "Prints who offered what in recordings and when, and who was subscribed\n\n"
+     "Usage: someipctl services [OPTIONS] <FILE>...\n"),
+    ("someipctl|help|services", "  someipctl services examples/audit.pcap\n"),
     ("someipctl|help|show", "      --service <SERVICES>  Prints only datagrams with a message of one of these "
      "services\n"),
     ("someipctl|help|show", "      --types <FILE>        Prints the values of the payloads whose shapes this file "
@@ -65,6 +68,8 @@ USAGE = (
     ("someipctl|audit", "Usage: someipctl audit <FILE>...\n"),
     ("someipctl|extract", "Usage: someipctl extract <FILE>...\n"),
     ("someipctl|extract|--frames|x", "error: unexpected argument '--frames' found\n"),
+    ("someipctl|services", "Usage: someipctl services <FILE>...\n"),
+    ("someipctl|services|--group|x", "error: unexpected argument '--group' found\n"),
     ("someipctl|payload|u8", "Usage: someipctl payload <SHAPE> <HEX>\n"),
     ("/bin/other", "Usage: someipctl <COMMAND>\n"),
     ("someipctl|list", "error: unrecognized subcommand 'list'\n"),
@@ -81,7 +86,8 @@ USAGE = (
 RECORDING = "Usage: someipctl recording [OPTIONS] <FILE>..."
 AUDIT = "Usage: someipctl audit [OPTIONS] <FILE>..."
 EXTRACT = "Usage: someipctl extract [OPTIONS] <FILE>..."
-USAGES = {"recording": RECORDING, "audit": AUDIT, "extract": EXTRACT}
+SERVICES = "Usage: someipctl services [OPTIONS] <FILE>..."
+USAGES = {"recording": RECORDING, "audit": AUDIT, "extract": EXTRACT, "services": SERVICES}
 NUMBERS = (
     ("recording|--whole", "--whole-limit", "N", 1400, 1048576, RECORDING),
     ("recording|--whole", "--whole-slots", "N", 1, 1024, RECORDING),

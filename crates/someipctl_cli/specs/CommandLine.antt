@@ -13,7 +13,7 @@ use Rattle.clap.specs.declared.error.ErrorKind.TheVariants as kind
 use Rattle.clap.specs.declared.builder.ArgAction.TheVariants.{Append, SetTrue}
 use Rattle.someipctl_recordings.specs.declared.audit.SettingTexts.{SettingTexts}
 use Rattle.someipctl_cli.specs.declared.command.Command.{Command}
-use Rattle.someipctl_cli.specs.declared.command.Command.TheVariants.{Show, Payload, Encode, Vectors, Run, Recording, Chart, Audit, Explore, Extract}
+use Rattle.someipctl_cli.specs.declared.command.Command.TheVariants.{Show, Payload, Encode, Vectors, Run, Recording, Chart, Audit, Explore, Extract, Services}
 use Rattle.someipctl_cli.specs.declared.command.AuditOptions.{AuditOptions}
 use Rattle.someipctl_cli.specs.declared.command.ChoiceOptions.{ChoiceOptions}
 use Rattle.someipctl_cli.specs.declared.command.PacketOptions.{PacketOptions}
@@ -21,6 +21,7 @@ use Rattle.someipctl_cli.specs.declared.command.SettingOptions.{SettingOptions}
 use Rattle.someipctl_cli.specs.declared.command.RecordingOptions.{RecordingOptions}
 use Rattle.someipctl_cli.specs.declared.explore_words.ExploreOptions.{ExploreOptions}
 use Rattle.someipctl_cli.specs.declared.extract_words.ExtractOptions.{ExtractOptions}
+use Rattle.someipctl_cli.specs.declared.report_words.ReportOptions.{ReportOptions}
 use Rattle.someipctl_cli.specs.declared.command.LineError.{LineError}
 use Rattle.someipctl_cli.specs.declared.command.LineError.TheVariants.{Usage, Help, OutOfMemory}
 
@@ -151,6 +152,15 @@ extract_options = with_packets (with_choice (with_rule (with_rule (new_app (code
 abbrev pub extract_usage : Shape
 extract_usage = (with_rule extract_options (required_many (codes "file"))).top
 
+-- `services [--ports PORTS] [--json] [--service SERVICES] [--address A] [--client C] [--from TIME] [--until TIME] [--learned]
+-- [--interface N] [--vlan ID] [--dedup MS] FILE..`
+abbrev pub services_options : App
+services_options =
+    with_packets (with_choice (with_rule (with_json (with_rule (new_app (codes "services")) (valued (codes "ports")))) (valued (codes "service"))))
+
+abbrev pub services_usage : Shape
+services_usage = (with_rule services_options (required_many (codes "file"))).top
+
 -- the program alone, which asks for a subcommand
 abbrev pub program : App
 program = on_top (λ top. record top { subcommand_required = true }) (new_app (codes "someipctl"))
@@ -169,7 +179,7 @@ with_audit = with_subcommand (with_subcommand (with_subcommand with_file_command
 
 -- the command line
 abbrev pub cli : App
-cli = with_subcommand (with_subcommand with_audit explore_usage) extract_usage
+cli = with_subcommand (with_subcommand (with_subcommand with_audit explore_usage) extract_usage) services_usage
 
 -- ---- what words ask for
 
@@ -237,6 +247,14 @@ pub record ExtractRequest : Type 0 where
   pub ports : Option Text
   pub service : Option Text
 
+-- the options of `services`
+pub record ReportRequest : Type 0 where
+  pub packets : PacketRequest
+  pub choice : ChoiceRequest
+  pub ports : Option Text
+  pub service : Option Text
+  pub json : Bool
+
 -- a command, without where its words lie in memory
 pub data Request : Type 0 where
   show_request : Text → Option Text → Option Text → Bool → Request
@@ -249,6 +267,7 @@ pub data Request : Type 0 where
   audit_request : List Text → AuditRequest → Request
   explore_request : (setup moves goal : Text) → ExploreRequest → Request
   extract_request : List Text → ExtractRequest → Request
+  services_request : List Text → ReportRequest → Request
 
 abbrev pub text_at : Option (Bor Text) → Option Text
 text_at text = option_map (λ t. t.now) text
@@ -312,6 +331,15 @@ asked_by_explore_options o = record {
 abbrev pub asked_by_extract_options : ExtractOptions → ExtractRequest
 asked_by_extract_options o = record { packets = asked_by_packets o.packets; choice = asked_by_choice o.choice; ports = text_at o.ports; service = text_at o.service }
 
+abbrev pub asked_by_report_options : ReportOptions → ReportRequest
+asked_by_report_options o = record {
+  packets = asked_by_packets o.packets;
+  choice = asked_by_choice o.choice;
+  ports = text_at o.ports;
+  service = text_at o.service;
+  json = o.json;
+}
+
 -- what a command asks for
 abbrev pub asked_by_command : Command → Request
 asked_by_command (Show capture service types json) = show_request capture.now (text_at service) (text_at types) json
@@ -324,6 +352,7 @@ asked_by_command (Chart setup schedule) = chart_request setup.now schedule.now
 asked_by_command (Audit files options) = audit_request (texts_at files.items) (asked_by_audit_options options)
 asked_by_command (Explore setup moves goal options) = explore_request setup.now moves.now goal.now (asked_by_explore_options options)
 asked_by_command (Extract files options) = extract_request (texts_at files.items) (asked_by_extract_options options)
+asked_by_command (Services files options) = services_request (texts_at files.items) (asked_by_report_options options)
 
 -- an option without a value is on where it was given: then its value is that of true
 abbrev pub is_on : Option Text → Bool
@@ -471,6 +500,18 @@ extract_options_by value = extract_options_of (packet_options_by value) (choice_
 abbrev pub asked_by_extract : (Text → Option Text) → (Text → List Text) → Option Request
 asked_by_extract value values = option_map (λ file. extract_request (values (codes "file")) (extract_options_by value)) (value (codes "file"))
 
+-- the options of `services`, by what each matched
+abbrev pub report_options_of : PacketRequest → ChoiceRequest → (ports service : Option Text) → Bool → ReportRequest
+report_options_of packets choice ports service json = record { packets = packets; choice = choice; ports = ports; service = service; json = json }
+
+abbrev pub report_options_by : (Text → Option Text) → ReportRequest
+report_options_by value =
+    report_options_of (packet_options_by value) (choice_options_by value) (value (codes "ports")) (value (codes "service")) (is_on (value (codes "json")))
+
+-- what `services` asks for
+abbrev pub asked_by_services : (Text → Option Text) → (Text → List Text) → Option Request
+asked_by_services value values = option_map (λ file. services_request (values (codes "file")) (report_options_by value)) (value (codes "file"))
+
 -- what a subcommand asks for, by its name and the values of its arguments and options: the first of each, and all
 abbrev pub asked_by_subcommand : Text → (Text → Option Text) → (Text → List Text) → Option Request
 asked_by_subcommand name value values =
@@ -483,7 +524,8 @@ asked_by_subcommand name value values =
     else (if bytes_eq name (codes "chart") then asked_by_chart value
     else (if bytes_eq name (codes "audit") then asked_by_audit value values
     else (if bytes_eq name (codes "explore") then asked_by_explore value values
-    else (if bytes_eq name (codes "extract") then asked_by_extract value values else None)))))))))
+    else (if bytes_eq name (codes "extract") then asked_by_extract value values
+    else (if bytes_eq name (codes "services") then asked_by_services value values else None))))))))))
 
 -- what the subcommand that was entered asks for, where one was
 abbrev pub asked_by_entered : Option (Text × List Row) → Option Request

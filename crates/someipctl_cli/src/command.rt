@@ -13,6 +13,7 @@ ghost use Rattle.someipctl_cli.specs.CommandLine.{setting_options_by, texts_at, 
 
 use crate::explore_words::{ExploreOptions, explore_matched};
 use crate::extract_words::{ExtractOptions, extract_matched};
+use crate::report_words::{ReportOptions, services_matched};
 use crate::grammar::definition;
 use clap::ArgMatches;
 use clap::error::ErrorKind;
@@ -109,6 +110,13 @@ pub enum Command<'w> {
         files: Vec<&'w str>,
         /// Which datagrams are asked for.
         options: ExtractOptions<'w>,
+    },
+    /// Print who offered what in recordings of network traffic and when, and who was subscribed.
+    Services {
+        /// Their paths, as they were given.
+        files: Vec<&'w str>,
+        /// Which lines are asked for.
+        options: ReportOptions<'w>,
     },
 }
 
@@ -309,6 +317,7 @@ fn matched_under<'w>(
         "audit" => audit_matched(alloc, rest),
         "explore" => explore_matched(alloc, rest),
         "extract" => extract_matched(alloc, rest),
+        "services" => services_matched(alloc, rest),
         _ => Ok(None),
     }
 }

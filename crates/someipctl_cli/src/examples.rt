@@ -173,6 +173,16 @@ SETUP and SCHEDULE are those of `run`. The picture goes to standard output. So t
   someipctl chart examples/runs/two.toml examples/runs/two.txt > two.svg
 writes a picture of that run, which a browser shows.";
 
+/// Of `services`.
+pub(crate) const SERVICES_EXAMPLE: &str = "\
+FILE is a recording as for `recording`. An offer or a subscription is printed where it ends, with why:
+`stopped`, `expired`, `reboot`, `moved` (offered otherwise), `refused` (by a Nack), `offer` (of what was
+offered, a StopOffer), or `open` at the end of the recording. So the call
+  someipctl services examples/audit.pcap
+prints first
+  subscription 1111.0001 major 01 group 0002 192.168.0.3:40002 at 192.168.0.1 from 1700000008.010000000 until 1700000008.012000000 refused
+--from and --until choose those that end at or after the one time, and begin before the other.";
+
 /// Of `extract`.
 pub(crate) const EXTRACT_EXAMPLE: &str = "\
 FILE and the options are those of `recording`, which prints the datagrams that are written here. What is

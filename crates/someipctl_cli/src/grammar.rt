@@ -18,6 +18,7 @@ use crate::examples::{
 };
 use crate::explore_words::explore_definition;
 use crate::extract_words::extract_definition;
+use crate::report_words::services_definition;
 use clap::{Arg, ArgAction};
 use std::alloc::{AllocError, Global};
 
@@ -34,7 +35,8 @@ pub(crate) fn definition<'d>(alloc: Global) -> Result<clap::Command<'d>, AllocEr
     let chart = adding(recording, chart_definition(alloc));
     let audit = adding(chart, audit_definition(alloc));
     let explore = adding(audit, explore_definition(alloc));
-    adding(explore, extract_definition(alloc))
+    let extract = adding(explore, extract_definition(alloc));
+    adding(extract, services_definition(alloc))
 }
 
 /// A command with a further one below it, where both are there.
@@ -302,7 +304,7 @@ fn add_filters<'d>(
 }
 
 /// The command with the option that asks for JSON objects.
-fn add_json<'d>(
+pub(crate) fn add_json<'d>(
     alloc: Global,
     command: Result<clap::Command<'d>, AllocError>,
 ) -> Result<clap::Command<'d>, AllocError>

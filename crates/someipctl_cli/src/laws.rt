@@ -5,7 +5,7 @@ ghost use Rattle.someipctl_cli.specs.CommandLine.{CallsForHelp, HaveFault, IsTak
 ghost use Rattle.someipctl_cli.specs.CommandLine.{requested, show_request, encode_request, vectors_request, run_request};
 ghost use Rattle.someipctl_cli.specs.CommandLine.{recording_options_of, recording_request, chart_request};
 ghost use Rattle.someipctl_cli.specs.CommandLine.{audit_options_of, audit_request, choice_options_of, no_choice, no_packets, no_settings, setting_options_of};
-ghost use Rattle.someipctl_cli.specs.CommandLine.{extract_options_of, extract_request, packet_options_of};
+ghost use Rattle.someipctl_cli.specs.CommandLine.{extract_options_of, extract_request, packet_options_of, report_options_of, services_request};
 
 use clap::error::ErrorKind;
 
@@ -95,6 +95,9 @@ pub fn calls_by_example()
     ensures extract { requested (line (codes "extract" ∷ codes "x" ∷ codes "--service" ∷ codes "1111" ∷ codes "--vlan" ∷ codes "7"
         ∷ codes "y" ∷ [])) ≡ Some (extract_request (codes "x" ∷ codes "y" ∷ [])
         (extract_options_of (packet_options_of None (Some (codes "7")) None) no_choice None (Some (codes "1111")))) }
+    ensures services { requested (line (codes "services" ∷ codes "--json" ∷ codes "x" ∷ codes "--service" ∷ codes "1111" ∷ []))
+        ≡ Some (services_request (codes "x" ∷ [])
+        (report_options_of (packet_options_of None None None) no_choice None (Some (codes "1111")) true)) }
 
     // An option without its value, and one that was given twice.
     ensures bare_expect { HaveFault (line (codes "run" ∷ codes "x" ∷ codes "y" ∷ codes "--expect" ∷ []))

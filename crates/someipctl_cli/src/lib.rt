@@ -1,7 +1,8 @@
 //! The command line of `someipctl`: what its words ask for, and how the program ends.
 //!
 //! What a command reads, does and prints stands in `someipctl_show`, of `recording` and `audit` in
-//! `someipctl_recordings`, of `extract` in `someipctl_extract`, of `run` and `chart` in `someipctl_run`, and of
+//! `someipctl_recordings`, of `extract` in `someipctl_extract`, of `services` in
+//! `someipctl_services`, of `run` and `chart` in `someipctl_run`, and of
 //! `explore` in `someipctl_explore`.
 //!
 //! - `command`, `help`: what the words ask for, and the answer to others;
@@ -10,7 +11,7 @@
 //! - `program`: the words, and the exit status;
 //! - `options`, `source`: what options ask for, and the files that are named;
 //! - `error_writer`: standard error, as a writer;
-//! - `explore_words`, `extract_words`: the words of `explore` and of `extract`;
+//! - `explore_words`, `extract_words`, `report_words`: the words of `explore`, of `extract` and of `services`;
 //! - `recordings`, `runs`, `explorations`: the commands over recordings, and over setups;
 //! - `failure`: why the program failed, with its exit status and its text;
 //! - `laws`: what the definitions behind the contracts promise.
@@ -33,6 +34,7 @@ pub mod laws;
 mod options;
 mod program;
 mod recordings;
+mod report_words;
 mod runs;
 mod source;
 
@@ -44,3 +46,4 @@ pub use extract_words::ExtractOptions;
 pub use failure::{Failure, OptionName, Refusal};
 pub use help::answer_error;
 pub use program::{answer, report, run, words_of};
+pub use report_words::ReportOptions;

@@ -1,8 +1,9 @@
-//! The commands over recordings: `recording`, `audit` and `extract`.
+//! The commands over recordings: `recording`, `audit`, `extract` and `services`.
 use crate::command::{AuditOptions, RecordingOptions};
 use crate::extract_words::ExtractOptions;
 use crate::failure::{Failure, Refusal};
 use crate::options::{SharedOptions, line_form, selection_of, whole_of};
+use crate::report_words::ReportOptions;
 use crate::source::{open_sources, rules_at, types_at};
 use recording_packets::LeftOut;
 use someip_tp::IntervalPool;
@@ -12,6 +13,7 @@ use someipctl_recordings::audit::{AuditAsked, rules_in, show_audit};
 use someipctl_recordings::{
     Asked, FileFault, Heads, ShownRecording, StoppedAt, Wanted, show_recording,
 };
+use someipctl_services::{ServicesAsked, show_services};
 use std::io;
 use std::rt::Files;
 
@@ -21,6 +23,8 @@ const RECORDING_USAGE: &str = "recording [OPTIONS] <FILE>...";
 const AUDIT_USAGE: &str = "audit [OPTIONS] <FILE>...";
 
 const EXTRACT_USAGE: &str = "extract [OPTIONS] <FILE>...";
+
+const SERVICES_USAGE: &str = "services [OPTIONS] <FILE>...";
 
 /// Shows recordings, and then tells on standard error what was left out of them, and their fault, if they have
 /// one. Whatever is wrong with the options is told before a file is looked at, and whatever is wrong with the
@@ -170,6 +174,37 @@ fn extract_wanted<'p, R: Files + Print + Eprint + Input + AllocGlobal>(
         }
         Err(stopped) => Err(stopped_at(paths, stopped)),
     }
+}
+
+/// Prints who offered what in recordings and when, and who was subscribed, and then tells on standard error what was
+/// left out of them, and their fault, if they have one. Whatever is wrong with the options is told before a recording
+/// is looked at.
+pub(crate) fn services_recorded<'p, R: Files + Print + Eprint + Input + AllocGlobal>(
+    rt: &R,
+    paths: &[&'p str],
+    options: ReportOptions<'p>,
+) -> Result<Outcome, Failure<'p>> {
+    let selection = selection_of(
+        rt,
+        SharedOptions {
+            usage: SERVICES_USAGE,
+            ports: options.ports,
+            service: options.service,
+            packets: options.packets,
+            choice: options.choice,
+        },
+    )?;
+    let asked = ServicesAsked {
+        wanted: selection.wanted(),
+        form: line_form(options.json),
+    };
+    let mut sources = open_sources(rt, paths)?;
+    let mut writer = io::writer(rt);
+    let shown = show_services(rt.alloc(), sources.as_mut_slice(), &asked, &mut writer);
+    if let Ok(shown) = &shown {
+        tell_left_out(rt, &shown.left_out);
+    }
+    end_recording(rt, paths, shown)
 }
 
 /// Tells what the packets lose that were extracted, if they lose anything.

@@ -25,6 +25,7 @@ returns c = record {
   audit_group = refl;
   audit_options = refl;
   extract = refl;
+  services = refl;
   bare_expect = ((λ e. cc), inl refl);
   twice = ((λ e. cc), inl refl);
   bare = ((λ e. cc), inl refl);
