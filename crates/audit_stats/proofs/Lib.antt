@@ -1,0 +1,2 @@
+pub mod BucketLemmas
+pub mod SpreadLemmas
