@@ -1,2 +1,3 @@
 pub mod BucketLemmas
 pub mod SpreadLemmas
+pub mod TableLemmas
