@@ -2,11 +2,19 @@
 #![tactic(auto)]
 
 mod counts;
+mod discovery;
+mod events;
 mod keys;
 pub mod laws;
+mod methods;
+mod sight;
 mod spread;
 mod table;
 
 pub use counts::Counts;
+pub use discovery::{DiscoveryChange, DiscoveryFigures};
+pub use events::{EventChange, EventFigures};
 pub use keys::{Call, Route, Way};
+pub use methods::{CallChange, MethodFigures};
+pub use sight::{Part, Sight};
 pub use spread::{Spread, Summary};
