@@ -6,7 +6,8 @@ use Rattle.std.specs.declared.cmp.Ordering.{Ordering}
 use Rattle.std.specs.Ordering.{eq_by_cmp}
 use Rattle.std.specs.Cmp.{IsTotalOrder}
 use Rattle.std.specs.FinMap.{FinMap, IsAntisymmetric, get, insert, remove, get-insert, get-remove, same_map}
-use Rattle.someip_tables.proofs.Entries.{same_by_test}
+use Rattle.someip_tables.proofs.Entries.{own_test, same_by_test}
+use Rattle.audit_stats.specs.Tables.{Held, with_held, without_held}
 
 pub on_ok_from : {T E P Q : Type 0} (r : Result T E) → (P → Q) → OnOk r P → OnOk r Q
 on_ok_from (Ok x) f p = f p
@@ -39,3 +40,17 @@ module _ {K V : Type 0} {R : K → K → Ordering} (o : IsTotalOrder R) (exact :
       cases : (q : K) (t : Bool) → eq_by_cmp R q key ≡ t → cond t None (cond t (Some value) (get m q)) ≡ get m q
       cases q true tie = sym none ∙ ap (get m) (sym (same_by_test exact q key tie))
       cases q false tie = refl
+
+  -- a table from which what was put in is taken back: an earlier value is put, or none was there
+  pub put_back : (old mid new : Held R V) (key : K) (value before : V) {T E : Type 0} (r : Result T E) → Some before ≡ get old.values key → mid ≡ with_held key value old → OnOk r (new ≡ with_held key before mid)
+      → OnErr r (get mid.values key ≡ None) → new ≡ old
+  put_back old mid new key value before (Ok x) has is put err =
+      put ∙ ap (with_held key before) is ∙ ap (λ (m : FinMap R V). record { limit = old.limit; values = m; told_full = old.told_full }) (insert_back old.values key value before (sym has))
+  put_back old mid new key value before (Err e) has is put err =
+      let held : get (insert old.values key value) key ≡ Some value = get-insert o old.values key value key ∙ rw (own_test o key) refl in
+      let none : get (insert old.values key value) key ≡ None = ap (λ (t : Held R V). get t.values key) (sym is) ∙ err in
+      absurd (cc)
+
+  pub taken_back : (old mid new : Held R V) (key : K) (value : V) → None ≡ get old.values key → mid ≡ with_held key value old → new ≡ without_held key mid → new ≡ old
+  taken_back old mid new key value none is taken =
+      taken ∙ ap (without_held key) is ∙ ap (λ (m : FinMap R V). record { limit = old.limit; values = m; told_full = old.told_full }) (remove_back old.values key value (sym none))
