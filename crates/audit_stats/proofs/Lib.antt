@@ -1,3 +1,5 @@
 pub mod BucketLemmas
 pub mod SpreadLemmas
 pub mod TableLemmas
+pub mod TallyLemmas
+pub mod EventLemmas

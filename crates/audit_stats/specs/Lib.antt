@@ -6,3 +6,4 @@ pub mod Tables
 pub mod Changes
 pub mod Sights
 pub mod Stats
+pub mod Histories

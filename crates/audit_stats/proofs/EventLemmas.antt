@@ -1,0 +1,127 @@
+-- What figures hold of the events and of the Service Discovery of a history.
+use Rattle.std.proofs.Common.{◌≡◌, ◌⊎◌, ℕ, ◌+◌, ◌-◌, ◌^◌, min, Bool, true, false, cond, ◌&&◌, List, [], ◌∷◌, Option, None, Some, refl, ap, subst, sym, ◌∙◌, arith}
+use Rattle.std.specs.List.{cons_option}
+use Rattle.std.specs.Ordering.{eq_by_cmp}
+use Rattle.std.specs.FinMap.{get}
+use Rattle.audit_stats.specs.Changes.{after_discovery, after_event, no_discovery, no_events, time_since, with_some}
+use Rattle.audit_stats.specs.declared.discovery.DiscoveryChange.{DiscoveryChange}
+use Rattle.audit_stats.specs.declared.discovery.DiscoveryChange.TheVariants as of_discovery
+use Rattle.audit_stats.specs.declared.discovery.DiscoveryFigures.{DiscoveryFigures}
+use Rattle.audit_stats.specs.declared.events.EventChange.{EventChange}
+use Rattle.audit_stats.specs.declared.events.EventChange.TheVariants as of_event
+use Rattle.audit_stats.specs.declared.events.EventFigures.{EventFigures}
+use Rattle.audit_stats.specs.declared.full.FigureLimits.{FigureLimits}
+use Rattle.audit_stats.specs.declared.keys.Route.{Route}
+use Rattle.audit_stats.specs.declared.keys.Way.{Way}
+use Rattle.audit_stats.specs.declared.sight.Sight.{Sight}
+use Rattle.audit_stats.specs.declared.sight.Sight.TheVariants as sights
+use Rattle.audit_stats.specs.Histories.{bytes_in, bytes_of, capped, cycles_of, discovery_figures, event_figures, how_often, is_discovered, is_event, is_message, is_reboot, last_of, lost_in, total}
+use Rattle.audit_stats.specs.Keys.{route_cmp, way_cmp}
+use Rattle.audit_stats.specs.KeyOrder.{routes, ways}
+use Rattle.audit_stats.specs.Sights.{sight_of}
+use Rattle.audit_stats.specs.Spreads.{Values, raised, spread_of}
+use Rattle.audit_stats.specs.Stats.{BeganAgain, Came, Discovered, Fact, Lost, Stats, after_fact, after_sight, stats_of}
+use Rattle.audit_stats.specs.Tables.{Held}
+use Rattle.audit_stats.proofs.TallyLemmas.{by_change, figures_by, figures_of, held_is, none_held, table_of}
+
+-- ---- counters and spreads
+
+pub raised_is : (n by : ℕ) → raised (capped n) by ≡ capped (n + by)
+raised_is n by = omega arith
+
+pub some_more : (o : Option ℕ) (values : List ℕ) → with_some o (spread_of values) ≡ spread_of (cons_option o values)
+some_more None values = refl
+some_more (Some value) values = refl
+
+pub no_more : (n : ℕ) → capped n ≡ capped (n + 0)
+no_more n = omega arith
+
+-- ---- events
+
+event_change_of : ℕ → Sight → Option (Route × EventChange)
+event_change_of now (sights.Event route part) = Some (route, of_event.Came now part)
+event_change_of now other = None
+
+event_change : List Fact → Fact → Option (Route × EventChange)
+event_change earlier (Came now from to message) = event_change_of now (sight_of from to message)
+event_change earlier (Lost route number) = Some (route, of_event.Lost number)
+event_change earlier other = None
+
+abbrev event_table : ℕ → List Fact → Held route_cmp EventFigures
+event_table = table_of routes.total routes.exact no_events after_event event_change
+
+sight_step : (now : ℕ) (sight : Sight) (s : Stats) → (after_sight now sight s).events ≡ by_change routes.total routes.exact no_events after_event (event_change_of now sight) s.events
+unfolding event_change_of
+sight_step now sights.Nothing s = refl
+sight_step now (sights.Called call asks) s = refl
+sight_step now (sights.Answered call fails) s = refl
+sight_step now (sights.Event route part) s = refl
+
+event_step : (fact : Fact) (earlier : List Fact) (s : Stats) → (after_fact fact s).events ≡ by_change routes.total routes.exact no_events after_event (event_change earlier fact) s.events
+unfolding event_change
+event_step (Came now from to message) earlier s = sight_step now (sight_of from to message) s
+event_step (Discovered way) earlier s = refl
+event_step (Lost route number) earlier s = refl
+event_step (BeganAgain way) earlier s = refl
+
+events_table : (limits : FigureLimits) (facts : List Fact) → (stats_of limits facts).events ≡ event_table limits.keys facts
+events_table limits [] = refl
+events_table limits (fact ∷ earlier) = event_step fact earlier (stats_of limits earlier) ∙ ap (by_change routes.total routes.exact no_events after_event (event_change earlier fact)) (events_table limits earlier)
+
+same_event : {a b c d e f : ℕ} {l m : Option ℕ} {v w : Values} → a ≡ b → c ≡ d → e ≡ f → l ≡ m → v ≡ w
+    → ◌≡◌ {A = EventFigures} (record { count = a; bytes = c; gaps = e; last = l; cycle = v }) (record { count = b; bytes = d; gaps = f; last = m; cycle = w })
+same_event count bytes gaps last cycle = λ i. record { count = count i; bytes = bytes i; gaps = gaps i; last = last i; cycle = cycle i }
+
+abbrev event_by : Route → Option (Route × EventChange) → EventFigures → EventFigures
+event_by = figures_by routes.total routes.exact no_events after_event
+
+-- figures with these numbers
+abbrev event_with : ℕ → ℕ → ℕ → Option ℕ → List ℕ → EventFigures
+event_with n b g last cycles = record { count = capped n; bytes = capped b; gaps = capped g; last = last; cycle = spread_of cycles }
+
+-- once one more message came
+sight_counted : (route : Route) (now : ℕ) (sight : Sight) (n b g : ℕ) (last : Option ℕ) (cycles : List ℕ)
+    → event_by route (event_change_of now sight) (event_with n b g last cycles)
+    ≡ event_with (cond (is_event route sight) (n + 1) n) (b + bytes_of route sight) (g + 0) (cond (is_event route sight) (Some now) last) (cond (is_event route sight) (cons_option (time_since now last) cycles) cycles)
+unfolding event_change_of
+sight_counted route now sights.Nothing n b g last cycles = same_event refl (no_more b) (no_more g) refl refl
+sight_counted route now (sights.Called call asks) n b g last cycles = same_event refl (no_more b) (no_more g) refl refl
+sight_counted route now (sights.Answered call fails) n b g last cycles = same_event refl (no_more b) (no_more g) refl refl
+sight_counted route now (sights.Event other part) n b g last cycles = cases (eq_by_cmp route_cmp route other) part.ends refl
+  where
+    cases : (s e : Bool) → part.ends ≡ e → cond s (after_event (of_event.Came now part) (event_with n b g last cycles)) (event_with n b g last cycles)
+        ≡ event_with (cond (s && e) (n + 1) n) (b + cond s part.bytes 0) (g + 0) (cond (s && e) (Some now) last) (cond (s && e) (cons_option (time_since now last) cycles) cycles)
+    cases true true ends = rw ends (same_event (raised_is n 1) (raised_is b part.bytes) (no_more g) refl (some_more (time_since now last) cycles))
+    cases true false ends = rw ends (same_event refl (raised_is b part.bytes) (no_more g) refl refl)
+    cases false true ends = same_event refl (no_more b) (no_more g) refl refl
+    cases false false ends = same_event refl (no_more b) (no_more g) refl refl
+
+-- once more were lost
+lost_counted : (route other : Route) (number n b g : ℕ) (last : Option ℕ) (cycles : List ℕ)
+    → event_by route (Some (other, of_event.Lost number)) (event_with n b g last cycles) ≡ event_with n (b + 0) (g + cond (eq_by_cmp route_cmp route other) number 0) last cycles
+lost_counted route other number n b g last cycles = cases (eq_by_cmp route_cmp route other)
+  where
+    cases : (s : Bool) → cond s (after_event (of_event.Lost number) (event_with n b g last cycles)) (event_with n b g last cycles) ≡ event_with n (b + 0) (g + cond s number 0) last cycles
+    cases true = same_event refl (no_more b) (raised_is g number) refl refl
+    cases false = same_event refl (no_more b) (no_more g) refl refl
+
+event_counted : (route : Route) (fact : Fact) (earlier : List Fact) → event_by route (event_change earlier fact) (event_figures route earlier) ≡ event_figures route (fact ∷ earlier)
+unfolding event_change
+event_counted route (Came now from to message) earlier =
+    sight_counted route now (sight_of from to message) (how_often (is_message (is_event route)) earlier) (total (bytes_in route) earlier) (total (lost_in route) earlier) (last_of route earlier) (cycles_of route earlier)
+event_counted route (Discovered way) earlier = same_event refl (no_more (total (bytes_in route) earlier)) (no_more (total (lost_in route) earlier)) refl refl
+event_counted route (Lost other number) earlier =
+    lost_counted route other number (how_often (is_message (is_event route)) earlier) (total (bytes_in route) earlier) (total (lost_in route) earlier) (last_of route earlier) (cycles_of route earlier)
+event_counted route (BeganAgain way) earlier = same_event refl (no_more (total (bytes_in route) earlier)) (no_more (total (lost_in route) earlier)) refl refl
+
+abbrev event_fold : Route → List Fact → EventFigures
+event_fold = figures_of routes.total routes.exact no_events after_event event_change
+
+event_figures_are : (route : Route) (facts : List Fact) → event_fold route facts ≡ event_figures route facts
+event_figures_are route [] = refl
+event_figures_are route (fact ∷ earlier) = ap (event_by route (event_change earlier fact)) (event_figures_are route earlier) ∙ event_counted route fact earlier
+
+pub events_held : (limits : FigureLimits) (facts : List Fact) (route : Route) (figures : EventFigures) → get (stats_of limits facts).events.values route ≡ Some figures → figures ≡ event_figures route facts
+events_held limits facts route figures is =
+    let at : get (event_table limits.keys facts).values route ≡ Some figures = ap (λ (t : Held route_cmp EventFigures). get t.values route) (sym (events_table limits facts)) ∙ is in
+    held_is routes.total routes.exact no_events after_event event_change limits.keys route facts figures at ∙ event_figures_are route facts
