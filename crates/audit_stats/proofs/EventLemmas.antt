@@ -22,7 +22,7 @@ use Rattle.audit_stats.specs.Sights.{sight_of}
 use Rattle.audit_stats.specs.Spreads.{Values, raised, spread_of}
 use Rattle.audit_stats.specs.Stats.{BeganAgain, Came, Discovered, Fact, Lost, Stats, after_fact, after_sight, stats_of}
 use Rattle.audit_stats.specs.Tables.{Held}
-use Rattle.audit_stats.proofs.TallyLemmas.{by_change, figures_by, figures_of, held_is, none_held, table_of}
+use Rattle.audit_stats.proofs.TallyLemmas.{by_change, figures_by, figures_of, held_is, none_is, table_of}
 
 -- ---- counters and spreads
 
@@ -125,3 +125,74 @@ pub events_held : (limits : FigureLimits) (facts : List Fact) (route : Route) (f
 events_held limits facts route figures is =
     let at : get (event_table limits.keys facts).values route ≡ Some figures = ap (λ (t : Held route_cmp EventFigures). get t.values route) (sym (events_table limits facts)) ∙ is in
     held_is routes.total routes.exact no_events after_event event_change limits.keys route facts figures at ∙ event_figures_are route facts
+
+pub no_events_held : (limits : FigureLimits) (facts : List Fact) (route : Route) → (stats_of limits facts).events.told_full ≡ false → get (stats_of limits facts).events.values route ≡ None → event_figures route facts ≡ no_events
+no_events_held limits facts route fits is =
+    let room : (event_table limits.keys facts).told_full ≡ false = ap (λ (t : Held route_cmp EventFigures). t.told_full) (sym (events_table limits facts)) ∙ fits in
+    let at : get (event_table limits.keys facts).values route ≡ None = ap (λ (t : Held route_cmp EventFigures). get t.values route) (sym (events_table limits facts)) ∙ is in
+    sym (event_figures_are route facts) ∙ none_is routes.total routes.exact no_events after_event event_change limits.keys route facts room at
+
+-- ---- Service Discovery
+
+discovery_change : List Fact → Fact → Option (Way × DiscoveryChange)
+discovery_change earlier (Discovered way) = Some (way, of_discovery.Came)
+discovery_change earlier (BeganAgain way) = Some (way, of_discovery.BeganAgain)
+discovery_change earlier other = None
+
+abbrev discovery_table : ℕ → List Fact → Held way_cmp DiscoveryFigures
+discovery_table = table_of ways.total ways.exact no_discovery after_discovery discovery_change
+
+sight_leaves : (now : ℕ) (sight : Sight) (s : Stats) → (after_sight now sight s).discovery ≡ s.discovery
+sight_leaves now sights.Nothing s = refl
+sight_leaves now (sights.Called call asks) s = refl
+sight_leaves now (sights.Answered call fails) s = refl
+sight_leaves now (sights.Event route part) s = refl
+
+discovery_step : (fact : Fact) (earlier : List Fact) (s : Stats) → (after_fact fact s).discovery ≡ by_change ways.total ways.exact no_discovery after_discovery (discovery_change earlier fact) s.discovery
+unfolding discovery_change
+discovery_step (Came now from to message) earlier s = sight_leaves now (sight_of from to message) s
+discovery_step (Discovered way) earlier s = refl
+discovery_step (Lost route number) earlier s = refl
+discovery_step (BeganAgain way) earlier s = refl
+
+discovery_is : (limits : FigureLimits) (facts : List Fact) → (stats_of limits facts).discovery ≡ discovery_table limits.keys facts
+discovery_is limits [] = refl
+discovery_is limits (fact ∷ earlier) = discovery_step fact earlier (stats_of limits earlier) ∙ ap (by_change ways.total ways.exact no_discovery after_discovery (discovery_change earlier fact)) (discovery_is limits earlier)
+
+abbrev discovery_by : Way → Option (Way × DiscoveryChange) → DiscoveryFigures → DiscoveryFigures
+discovery_by = figures_by ways.total ways.exact no_discovery after_discovery
+
+discovery_counted : (way : Way) (fact : Fact) (earlier : List Fact) → discovery_by way (discovery_change earlier fact) (discovery_figures way earlier) ≡ discovery_figures way (fact ∷ earlier)
+unfolding discovery_change
+discovery_counted way (Came now from to message) earlier = refl
+discovery_counted way (Discovered other) earlier = cases (eq_by_cmp way_cmp way other)
+  where
+    cases : (s : Bool) → cond s (after_discovery of_discovery.Came (discovery_figures way earlier)) (discovery_figures way earlier)
+        ≡ record { messages = capped (cond s (how_often (is_discovered way) earlier + 1) (how_often (is_discovered way) earlier)); reboots = capped (how_often (is_reboot way) earlier) }
+    cases true = ap (λ n. record { messages = n; reboots = capped (how_often (is_reboot way) earlier) }) (raised_is (how_often (is_discovered way) earlier) 1)
+    cases false = refl
+discovery_counted way (Lost route number) earlier = refl
+discovery_counted way (BeganAgain other) earlier = cases (eq_by_cmp way_cmp way other)
+  where
+    cases : (s : Bool) → cond s (after_discovery of_discovery.BeganAgain (discovery_figures way earlier)) (discovery_figures way earlier)
+        ≡ record { messages = capped (how_often (is_discovered way) earlier); reboots = capped (cond s (how_often (is_reboot way) earlier + 1) (how_often (is_reboot way) earlier)) }
+    cases true = ap (λ n. record { messages = capped (how_often (is_discovered way) earlier); reboots = n }) (raised_is (how_often (is_reboot way) earlier) 1)
+    cases false = refl
+
+abbrev discovery_fold : Way → List Fact → DiscoveryFigures
+discovery_fold = figures_of ways.total ways.exact no_discovery after_discovery discovery_change
+
+discovery_figures_are : (way : Way) (facts : List Fact) → discovery_fold way facts ≡ discovery_figures way facts
+discovery_figures_are way [] = refl
+discovery_figures_are way (fact ∷ earlier) = ap (discovery_by way (discovery_change earlier fact)) (discovery_figures_are way earlier) ∙ discovery_counted way fact earlier
+
+pub discovery_held : (limits : FigureLimits) (facts : List Fact) (way : Way) (figures : DiscoveryFigures) → get (stats_of limits facts).discovery.values way ≡ Some figures → figures ≡ discovery_figures way facts
+discovery_held limits facts way figures is =
+    let at : get (discovery_table limits.keys facts).values way ≡ Some figures = ap (λ (t : Held way_cmp DiscoveryFigures). get t.values way) (sym (discovery_is limits facts)) ∙ is in
+    held_is ways.total ways.exact no_discovery after_discovery discovery_change limits.keys way facts figures at ∙ discovery_figures_are way facts
+
+pub no_discovery_held : (limits : FigureLimits) (facts : List Fact) (way : Way) → (stats_of limits facts).discovery.told_full ≡ false → get (stats_of limits facts).discovery.values way ≡ None → discovery_figures way facts ≡ no_discovery
+no_discovery_held limits facts way fits is =
+    let room : (discovery_table limits.keys facts).told_full ≡ false = ap (λ (t : Held way_cmp DiscoveryFigures). t.told_full) (sym (discovery_is limits facts)) ∙ fits in
+    let at : get (discovery_table limits.keys facts).values way ≡ None = ap (λ (t : Held way_cmp DiscoveryFigures). get t.values way) (sym (discovery_is limits facts)) ∙ is in
+    sym (discovery_figures_are way facts) ∙ none_is ways.total ways.exact no_discovery after_discovery discovery_change limits.keys way facts room at

@@ -3,3 +3,4 @@ pub mod SpreadLemmas
 pub mod TableLemmas
 pub mod TallyLemmas
 pub mod EventLemmas
+pub mod CallLemmas

@@ -125,3 +125,11 @@ module _ {K V C : Type 0} {R : K → K → Ordering} (o : IsTotalOrder R) (exact
     -- and where it is not, it never came, or found the table full
     pub none_held : (limit : ℕ) (key : K) (xs : List A) → get (table_of limit xs).values key ≡ None → (came_of key xs ≡ false) ⊎ (((table_of limit xs).limit ≤ len (table_of limit xs).values) × ((table_of limit xs).told_full ≡ true))
     none_held limit key xs is = subst (IsKept (table_of limit xs) (figures_of key xs) (came_of key xs)) is (kept limit key xs)
+
+    -- so in a table that never told that it is full there is nothing to count of a key that is not held
+    pub none_is : (limit : ℕ) (key : K) (xs : List A) → (table_of limit xs).told_full ≡ false → get (table_of limit xs).values key ≡ None → figures_of key xs ≡ none
+    none_is limit key xs fits is = cases (none_held limit key xs is)
+      where
+        cases : (came_of key xs ≡ false) ⊎ (((table_of limit xs).limit ≤ len (table_of limit xs).values) × ((table_of limit xs).told_full ≡ true)) → figures_of key xs ≡ none
+        cases (inl never) = never_came key xs never
+        cases (inr full) = let told : (table_of limit xs).told_full ≡ true = full.1 in absurd (cc)

@@ -146,3 +146,11 @@ is_reboot way other = false
 -- the figures of a way
 abbrev pub discovery_figures : Way → List Fact → DiscoveryFigures
 discovery_figures way facts = record { messages = capped (how_often (is_discovered way) facts); reboots = capped (how_often (is_reboot way) facts) }
+
+-- ---- what is counted whether or not calls are waited for
+
+abbrev pub AreCounted : Route → List Fact → MethodFigures → Type 0
+AreCounted route facts figures =
+    (figures.calls ≡ capped (how_often (is_message (is_call route)) facts))
+    × (figures.answers ≡ capped (how_often (is_message (is_answer route)) facts))
+    × (figures.errors ≡ capped (how_often (is_message (is_failure route)) facts))
