@@ -4,3 +4,4 @@ pub mod TableLemmas
 pub mod TallyLemmas
 pub mod EventLemmas
 pub mod CallLemmas
+pub mod LatencyLemmas

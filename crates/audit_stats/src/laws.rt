@@ -2,14 +2,14 @@
 //! figures tell of a recording, whatever code keeps them.
 ghost use Rattle.std.specs.Prelude.{◌≡◌, ◌<◌, ◌^◌, ℕ, List, [], ◌∷◌, length, None, Some, false};
 ghost use Rattle.std.specs.FinMap as finite;
-ghost use Rattle.audit_stats.specs.Changes.{no_discovery, no_events};
+ghost use Rattle.audit_stats.specs.Changes.{no_calls, no_discovery, no_events};
 ghost use Rattle.audit_stats.specs.declared.discovery.DiscoveryFigures.{DiscoveryFigures};
 ghost use Rattle.audit_stats.specs.declared.events.EventFigures.{EventFigures};
 ghost use Rattle.audit_stats.specs.declared.full.FigureLimits.{FigureLimits};
 ghost use Rattle.audit_stats.specs.declared.keys.Route.{Route};
 ghost use Rattle.audit_stats.specs.declared.keys.Way.{Way};
 ghost use Rattle.audit_stats.specs.declared.methods.MethodFigures.{MethodFigures};
-ghost use Rattle.audit_stats.specs.Histories.{AreCounted, discovery_figures, event_figures};
+ghost use Rattle.audit_stats.specs.Histories.{AreCounted, discovery_figures, event_figures, method_figures};
 ghost use Rattle.audit_stats.specs.Ranks.{AreBelow, IsNear, IsOfRank};
 ghost use Rattle.audit_stats.specs.Spreads.{quantile, rank_of, spread_of};
 ghost use Rattle.audit_stats.specs.Stats.{Fact, stats_of};
@@ -50,4 +50,16 @@ pub fn discovery_is_counted()
         → (stats_of limits facts).discovery.told_full ≡ false
         → finite.get (stats_of limits facts).discovery.values way ≡ None
         → discovery_figures way facts ≡ no_discovery }
+{}
+
+/// Y.
+pub fn methods_are_counted()
+    ensures held { (limits : FigureLimits) (facts : List Fact) (route : Route) (figures : MethodFigures)
+        → (stats_of limits facts).waiting.told_full ≡ false
+        → finite.get (stats_of limits facts).methods.values route ≡ Some figures
+        → figures ≡ method_figures route facts }
+    ensures others { (limits : FigureLimits) (facts : List Fact) (route : Route)
+        → (stats_of limits facts).methods.told_full ≡ false → (stats_of limits facts).waiting.told_full ≡ false
+        → finite.get (stats_of limits facts).methods.values route ≡ None
+        → method_figures route facts ≡ no_calls }
 {}
