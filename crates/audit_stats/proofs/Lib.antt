@@ -1,5 +1,6 @@
 pub mod BucketLemmas
 pub mod SpreadLemmas
+pub mod RankLemmas
 pub mod TableLemmas
 pub mod TallyLemmas
 pub mod EventLemmas

@@ -180,7 +180,7 @@ sums test (value ∷ values) few =
 
 -- ---- tests of values
 
-more_pass : (test other : ℕ → Bool) (values : List ℕ) → ((value : ℕ) → test value ≡ true → other value ≡ true) → how_many test values ≤ how_many other values
+pub more_pass : (test other : ℕ → Bool) (values : List ℕ) → ((value : ℕ) → test value ≡ true → other value ≡ true) → how_many test values ≤ how_many other values
 more_pass test other [] weaker = omega arith
 more_pass test other (value ∷ values) weaker = cases (test value) (other value) refl refl (more_pass test other values weaker)
   where

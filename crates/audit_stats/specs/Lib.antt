@@ -7,3 +7,4 @@ pub mod Changes
 pub mod Sights
 pub mod Stats
 pub mod Histories
+pub mod Examples

@@ -10,6 +10,11 @@ how_many test (value ∷ values) = if test value then how_many test values + 1 e
 abbrev pub IsOfRank : ℕ → ℕ → List ℕ → Type 0
 IsOfRank rank value values = (how_many (λ other. nat_lt other value) values < rank) × (rank ≤ how_many (λ other. nat_le other value) values)
 
+-- no value is below the one before it, and the first not below a bound
+abbrev pub Rises : ℕ → List ℕ → Type 0
+Rises bound [] = Unit {0}
+Rises bound (value ∷ values) = (bound ≤ value) × Rises value values
+
 -- each value is below a bound
 abbrev pub AreBelow : ℕ → List ℕ → Type 0
 AreBelow bound [] = Unit {0}

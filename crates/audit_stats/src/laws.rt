@@ -1,6 +1,6 @@
 //! Laws of the definitions behind the contracts. Each is the contract of a function that does nothing: it says what
 //! figures tell of a recording, whatever code keeps them.
-ghost use Rattle.std.specs.Prelude.{◌≡◌, ◌<◌, ◌^◌, ℕ, List, [], ◌∷◌, length, None, Some, false};
+ghost use Rattle.std.specs.Prelude.{◌≡◌, ◌<◌, ◌+◌, ◌^◌, ℕ, List, [], ◌∷◌, length, slice_get, None, Some, false};
 ghost use Rattle.std.specs.FinMap as finite;
 ghost use Rattle.audit_stats.specs.Changes.{no_calls, no_discovery, no_events};
 ghost use Rattle.audit_stats.specs.declared.discovery.DiscoveryFigures.{DiscoveryFigures};
@@ -10,8 +10,8 @@ ghost use Rattle.audit_stats.specs.declared.keys.Route.{Route};
 ghost use Rattle.audit_stats.specs.declared.keys.Way.{Way};
 ghost use Rattle.audit_stats.specs.declared.methods.MethodFigures.{MethodFigures};
 ghost use Rattle.audit_stats.specs.Histories.{AreCounted, discovery_figures, event_figures, method_figures};
-ghost use Rattle.audit_stats.specs.Ranks.{AreBelow, IsNear, IsOfRank};
-ghost use Rattle.audit_stats.specs.Spreads.{quantile, rank_of, spread_of};
+ghost use Rattle.audit_stats.specs.Ranks.{AreBelow, IsNear, IsOfRank, Rises};
+ghost use Rattle.audit_stats.specs.Spreads.{bucket_at, low_end, quantile, rank_of, spread_of};
 ghost use Rattle.audit_stats.specs.Stats.{Fact, stats_of};
 
 /// A quantile that is told is not more than the exact one, and less by at most a 32nd of what is told.
@@ -19,6 +19,51 @@ pub fn told_quantiles_are_near()
     ensures { (percent : ℕ) (values : List ℕ) (value : ℕ) → AreBelow (2 ^ 32) values → length values < 2 ^ 64
         → IsOfRank (rank_of percent (length values)) value values
         → IsNear (quantile percent (spread_of values)) value }
+{}
+
+/// The value of a rank is the one at that place of a list that rises, and a rank has one value.
+pub fn ranks_are_places()
+    ensures place { (values : List ℕ) (place value : ℕ) → Rises 0 values → slice_get values place ≡ Some value
+        → IsOfRank (place + 1) value values }
+    ensures one { (rank value other : ℕ) (values : List ℕ) → IsOfRank rank value values
+        → IsOfRank rank other values → value ≡ other }
+{}
+
+/// The least value and the greatest are exact: they are those of the first rank and of the last.
+pub fn extremes_are_exact()
+    ensures { (values : List ℕ) → AreBelow (2 ^ 64) values → 0 < length values
+        → IsOfRank 1 (spread_of values).least values
+        × IsOfRank (length values) (spread_of values).greatest values }
+{}
+
+/// Buckets by example: up to 63 each value has its own; from 64 on two values have one, from 128 on four, and what is
+/// 2^32 or more lies in the last.
+#[tactic(auto, unfolding(crate::specs::Spreads::low_within))]
+pub fn buckets_by_example()
+    ensures none { low_end 0 ≡ 0 }
+    ensures small { low_end 63 ≡ 63 }
+    ensures first { low_end 64 ≡ 64 }
+    ensures same { low_end 65 ≡ 64 }
+    ensures next { low_end 66 ≡ 66 }
+    ensures four { low_end 131 ≡ 128 }
+    ensures after_four { low_end 132 ≡ 132 }
+    ensures a_second { low_end 1000000 ≡ 999424 }
+    ensures last { low_end 4294967295 ≡ 4227858432 }
+    ensures greater { low_end 4294967296 ≡ 4227858432 }
+{}
+
+/// Ranks by example, and the bucket of a rank: of 1000 values the median has rank 500, of 3 the second, and the
+/// quantile of 99 percent the third.
+pub fn ranks_by_example()
+    ensures thousand { rank_of 50 1000 ≡ 500 }
+    ensures median { rank_of 50 3 ≡ 2 }
+    ensures high { rank_of 99 3 ≡ 3 }
+    ensures hundred { rank_of 99 100 ≡ 99 }
+    ensures more { rank_of 99 101 ≡ 100 }
+    ensures all { rank_of 100 7 ≡ 7 }
+    ensures low { bucket_at 3 ((10, 3) ∷ (64, 2) ∷ []) ≡ 10 }
+    ensures beyond { bucket_at 4 ((10, 3) ∷ (64, 2) ∷ []) ≡ 64 }
+    ensures values { IsOfRank 2 20 (30 ∷ 10 ∷ 20 ∷ []) }
 {}
 
 /// The figures of a method have just how many calls, answers and errors came, also where other methods had no room.
@@ -52,7 +97,8 @@ pub fn discovery_is_counted()
         → discovery_figures way facts ≡ no_discovery }
 {}
 
-/// Y.
+/// The figures of a method are those of its history, as long as there was room for each call that waits, also where
+/// other methods had no room. Of a method without figures there is nothing to count, if there was always room.
 pub fn methods_are_counted()
     ensures held { (limits : FigureLimits) (facts : List Fact) (route : Route) (figures : MethodFigures)
         → (stats_of limits facts).waiting.told_full ≡ false
