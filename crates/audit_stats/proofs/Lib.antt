@@ -6,3 +6,4 @@ pub mod TallyLemmas
 pub mod EventLemmas
 pub mod CallLemmas
 pub mod LatencyLemmas
+pub mod FullLemmas

@@ -120,3 +120,12 @@ coded_stats =
     code_by ((Methods × Held route_cmp EventFigures) × (Held way_cmp DiscoveryFigures × Waiting))
     (coded× (coded× (coded_held coded_route coded_method_figures) (coded_held coded_route coded_event_figures)) (coded× (coded_held coded_way coded_discovery_figures) (coded_held coded_call coded_ℕ)))
     (λ s. ((s.methods, s.events), (s.discovery, s.waiting))) (λ c. record { methods = c.0.0; events = c.0.1; discovery = c.1.0; waiting = c.1.1 }) (λ _. refl)
+
+-- ---- what was told
+
+-- that there is no room was told
+abbrev pub has_told : Full → Stats → Bool
+has_told full.Methods s = s.methods.told_full
+has_told full.Events s = s.events.told_full
+has_told full.Discovery s = s.discovery.told_full
+has_told full.Calls s = s.waiting.told_full

@@ -1,18 +1,25 @@
 //! Laws of the definitions behind the contracts. Each is the contract of a function that does nothing: it says what
 //! figures tell of a recording, whatever code keeps them.
-ghost use Rattle.std.specs.Prelude.{◌≡◌, ◌<◌, ◌+◌, ◌^◌, ℕ, List, [], ◌∷◌, length, slice_get, None, Some, false};
+ghost use Rattle.std.specs.Prelude.{◌≡◌, ◌<◌, ◌+◌, ◌++◌, ◌^◌, ℕ, Bool, List, [], ◌∷◌, length, slice_get, None, Some, true, false};
 ghost use Rattle.std.specs.FinMap as finite;
-ghost use Rattle.audit_stats.specs.Changes.{no_calls, no_discovery, no_events};
+ghost use Rattle.someip_wire.specs.declared.header.MessageType.TheVariants as types;
+ghost use Rattle.audit_stats.specs.Changes.{no_calls, no_discovery, no_events, unanswered_of};
 ghost use Rattle.audit_stats.specs.declared.discovery.DiscoveryFigures.{DiscoveryFigures};
 ghost use Rattle.audit_stats.specs.declared.events.EventFigures.{EventFigures};
 ghost use Rattle.audit_stats.specs.declared.full.FigureLimits.{FigureLimits};
+ghost use Rattle.audit_stats.specs.declared.full.Full.{Full};
+ghost use Rattle.audit_stats.specs.declared.keys.Call.{Call};
 ghost use Rattle.audit_stats.specs.declared.keys.Route.{Route};
 ghost use Rattle.audit_stats.specs.declared.keys.Way.{Way};
 ghost use Rattle.audit_stats.specs.declared.methods.MethodFigures.{MethodFigures};
-ghost use Rattle.audit_stats.specs.Histories.{AreCounted, discovery_figures, event_figures, method_figures};
+ghost use Rattle.audit_stats.specs.declared.sight.Part.{Part};
+ghost use Rattle.audit_stats.specs.declared.sight.Sight.TheVariants.{Answered, Called, Event};
+ghost use Rattle.audit_stats.specs.Examples.{answers, asks, event, first, last, method, sends, two_calls};
+ghost use Rattle.audit_stats.specs.Histories.{AreCounted, cycles_of, discovery_figures, event_figures, latencies_of, method_figures};
 ghost use Rattle.audit_stats.specs.Ranks.{AreBelow, IsNear, IsOfRank, Rises};
 ghost use Rattle.audit_stats.specs.Spreads.{bucket_at, low_end, quantile, rank_of, spread_of};
-ghost use Rattle.audit_stats.specs.Stats.{Fact, stats_of};
+ghost use Rattle.audit_stats.specs.Stats.{Discovered, Fact, Lost, Stats, after_fact, after_sight, has_told, stats_of, told_of_fact};
+ghost use Rattle.audit_stats.specs.Tables.{full_told, has_room};
 
 /// A quantile that is told is not more than the exact one, and less by at most a 32nd of what is told.
 pub fn told_quantiles_are_near()
@@ -108,4 +115,62 @@ pub fn methods_are_counted()
         → (stats_of limits facts).methods.told_full ≡ false → (stats_of limits facts).waiting.told_full ≡ false
         → finite.get (stats_of limits facts).methods.values route ≡ None
         → method_figures route facts ≡ no_calls }
+{}
+
+/// A message on a route without room changes nothing, but that it is noted that there is none; nor does one of Service
+/// Discovery on a way without room.
+pub fn what_has_no_room_changes_nothing_else()
+    ensures calls { (now : ℕ) (call : Call) (asks : Bool) (s : Stats) → has_room call.route s.methods ≡ false
+        → after_sight now (Called call asks) s ≡ record s { methods = full_told s.methods } }
+    ensures answers { (now : ℕ) (call : Call) (fails : Bool) (s : Stats) → has_room call.route s.methods ≡ false
+        → after_sight now (Answered call fails) s ≡ record s { methods = full_told s.methods } }
+    ensures events { (now : ℕ) (route : Route) (part : Part) (s : Stats) → has_room route s.events ≡ false
+        → after_sight now (Event route part) s ≡ record s { events = full_told s.events } }
+    ensures discovery { (way : Way) (s : Stats) → has_room way s.discovery ≡ false
+        → after_fact (Discovered way) s ≡ record s { discovery = full_told s.discovery } }
+{}
+
+/// That there is no room is told once for each of the four.
+pub fn full_is_told_once()
+    ensures notes { (fact : Fact) (s : Stats) (told : Full) → told_of_fact fact s ≡ Some told
+        → (has_told told s ≡ false) × (has_told told (after_fact fact s) ≡ true) }
+    ensures stays { (fact : Fact) (s : Stats) (told : Full) → has_told told s ≡ true
+        → has_told told (after_fact fact s) ≡ true }
+{}
+
+/// Calls by example: an answer is for the newest call with its key, 400 microseconds before; a second answer is for none,
+/// and the first call stays without one. An answer with another session is for none.
+pub fn calls_by_example()
+    ensures latency { latencies_of method two_calls ≡ 400 ∷ [] }
+    ensures again { latencies_of method (answers 950 7 types.Response 0 ∷ two_calls) ≡ 400 ∷ [] }
+    ensures unanswered { unanswered_of (method_figures method two_calls) ≡ 1 }
+    ensures another { latencies_of method (answers 900 8 types.Response 0 ∷ asks 500 7 types.Request [] ∷ []) ≡ [] }
+    ensures still { unanswered_of (method_figures method (answers 900 8 types.Response 0 ∷ asks 500 7 types.Request [] ∷ [])) ≡ 1 }
+    ensures no_return { unanswered_of (method_figures method (asks 500 7 types.RequestNoReturn [] ∷ [])) ≡ 0 }
+    ensures counted { (method_figures method (asks 500 7 types.RequestNoReturn [] ∷ two_calls)).calls ≡ 3 }
+    // A call in segments comes with the last one.
+    ensures first { (method_figures method (asks 500 7 types.TpRequest first ∷ [])).calls ≡ 0 }
+    ensures last { (method_figures method (asks 600 7 types.TpRequest last ∷ asks 500 7 types.TpRequest first ∷ [])).calls ≡ 1 }
+{}
+
+/// Errors by example: an answer of type ERROR is one, whatever its return code, and so is a RESPONSE with another return
+/// code than E_OK.
+pub fn errors_by_example()
+    ensures none { (method_figures method (answers 900 7 types.Response 0 ∷ [])).errors ≡ 0 }
+    ensures code { (method_figures method (answers 900 7 types.Response 1 ∷ [])).errors ≡ 1 }
+    ensures of_type { (method_figures method (answers 900 7 types.Error 0 ∷ [])).errors ≡ 1 }
+    ensures answers { (method_figures method (answers 900 7 types.Error 0 ∷ answers 900 7 types.Response 0 ∷ [])).answers ≡ 2 }
+{}
+
+/// Events by example: three bytes of payload, and in two segments two bytes without the TP headers. What has no room for
+/// a TP header counts for nothing.
+pub fn events_by_example()
+    ensures bytes { (event_figures event (sends 100 types.Notification (1 ∷ 2 ∷ 3 ∷ []) ∷ [])).bytes ≡ 3 }
+    ensures segments { (event_figures event (sends 200 types.TpNotification (last ++ 9 ∷ []) ∷ sends 100 types.TpNotification (first ++ 8 ∷ []) ∷ [])).bytes ≡ 2 }
+    ensures once { (event_figures event (sends 200 types.TpNotification (last ++ 9 ∷ []) ∷ sends 100 types.TpNotification (first ++ 8 ∷ []) ∷ [])).count ≡ 1 }
+    ensures short { event_figures event (sends 100 types.TpNotification (0 ∷ 0 ∷ 0 ∷ []) ∷ []) ≡ no_events }
+    ensures cycles { cycles_of event (sends 350 types.Notification [] ∷ sends 300 types.Notification [] ∷ sends 100 types.Notification [] ∷ []) ≡ 50 ∷ 200 ∷ [] }
+    ensures gaps { (event_figures event (Lost event 3 ∷ Lost event 4 ∷ [])).gaps ≡ 7 }
+    // What goes from the client to the server is another route.
+    ensures another { event_figures event (asks 100 7 types.Notification [] ∷ []) ≡ no_events }
 {}
