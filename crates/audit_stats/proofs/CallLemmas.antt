@@ -1,28 +1,24 @@
 -- What figures hold of the methods of a history.
-use Rattle.std.proofs.Common.{◌≡◌, ◌⊎◌, inl, inr, ℕ, ◌+◌, ◌-◌, ◌^◌, ◌<◌, ◌≤◌, min, Bool, true, false, cond, ◌&&◌, List, [], ◌∷◌, Option, None, Some, refl, ap, subst, sym, ◌∙◌, arith}
-use Rattle.std.specs.List.{cons_option}
-use Rattle.std.specs.Option.{is_some, unwrap_or}
+use Rattle.std.proofs.Common.{◌≡◌, ℕ, ◌+◌, Bool, true, false, cond, ◌&&◌, List, [], ◌∷◌, Option, None, Some, refl, ap, sym, ◌∙◌}
 use Rattle.std.specs.Ordering.{eq_by_cmp}
-use Rattle.std.specs.FinMap.{get, insert, remove, len, get-empty, get-insert, get-remove}
-use Rattle.someip_tables.proofs.Entries.{own_test, same_by_test}
-use Rattle.audit_stats.specs.Changes.{after_call, no_calls, number_if, time_since, with_some}
+use Rattle.std.specs.FinMap.{get}
+use Rattle.audit_stats.specs.Changes.{after_call, no_calls, time_since}
 use Rattle.audit_stats.specs.declared.full.FigureLimits.{FigureLimits}
-use Rattle.audit_stats.specs.declared.keys.Call.{Call}
 use Rattle.audit_stats.specs.declared.keys.Route.{Route}
 use Rattle.audit_stats.specs.declared.methods.CallChange.{CallChange}
 use Rattle.audit_stats.specs.declared.methods.CallChange.TheVariants as of_call
 use Rattle.audit_stats.specs.declared.methods.MethodFigures.{MethodFigures}
 use Rattle.audit_stats.specs.declared.sight.Sight.{Sight}
 use Rattle.audit_stats.specs.declared.sight.Sight.TheVariants as sights
-use Rattle.audit_stats.specs.Histories.{AreCounted, capped, how_often, is_answer, is_call, is_failure, is_message, is_request, latencies_of, latency_of, method_figures, waiting_since, waits_since}
-use Rattle.audit_stats.specs.Keys.{call_cmp, route_cmp}
-use Rattle.audit_stats.specs.KeyOrder.{calls, routes}
+use Rattle.audit_stats.specs.Histories.{AreCounted, capped, how_often, is_answer, is_call, is_failure, is_message}
+use Rattle.audit_stats.specs.Keys.{route_cmp}
+use Rattle.audit_stats.specs.KeyOrder.{routes}
 use Rattle.audit_stats.specs.Sights.{sight_of}
-use Rattle.audit_stats.specs.Spreads.{Values, raised, spread_of}
+use Rattle.audit_stats.specs.Spreads.{raised}
 use Rattle.audit_stats.specs.Stats.{BeganAgain, Came, Discovered, Fact, Lost, Methods, Stats, Waiting, after_fact, after_sight, stats_of}
-use Rattle.audit_stats.specs.Tables.{Held, counted, full_told, has_room}
-use Rattle.audit_stats.proofs.EventLemmas.{raised_is, some_more, no_more}
-use Rattle.audit_stats.proofs.TallyLemmas.{by_change, figures_by, figures_of, held_is, len_grows, no_room, none_is, room_left, table_of}
+use Rattle.audit_stats.specs.Tables.{has_room}
+use Rattle.audit_stats.proofs.EventLemmas.{raised_is, no_more}
+use Rattle.audit_stats.proofs.TallyLemmas.{by_change, figures_by, figures_of, held_is, table_of}
 
 abbrev by_call : Option (Route × CallChange) → Methods → Methods
 by_call = by_change routes.total routes.exact no_calls after_call

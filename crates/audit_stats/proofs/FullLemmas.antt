@@ -1,5 +1,5 @@
 -- That there is no room is told once, and what has none changes nothing else.
-use Rattle.std.proofs.Common.{◌≡◌, ℕ, Bool, true, false, cond, ◌&&◌, Option, None, Some, refl, subst}
+use Rattle.std.proofs.Common.{◌≡◌, ℕ, Bool, true, false, cond, ◌&&◌, None, Some, refl, subst}
 use Rattle.std.specs.declared.cmp.Ordering.{Ordering}
 use Rattle.std.specs.FinMap.{get}
 use Rattle.someip_tables.specs.hashed.Rooms.{told_when_full}
@@ -16,7 +16,7 @@ use Rattle.audit_stats.specs.declared.sight.Sight.{Sight}
 use Rattle.audit_stats.specs.declared.sight.Sight.TheVariants as sights
 use Rattle.audit_stats.specs.Keys.{route_cmp, way_cmp}
 use Rattle.audit_stats.specs.Sights.{sight_of}
-use Rattle.audit_stats.specs.Stats.{BeganAgain, Came, Discovered, Fact, Lost, Methods, Stats, Waiting, after_fact, after_sight, has_told, methods_answered, methods_called, told_of_called, told_of_fact, told_of_sight, waiting_answered, waiting_called, waiting_more}
+use Rattle.audit_stats.specs.Stats.{BeganAgain, Came, Discovered, Fact, Lost, Stats, after_fact, after_sight, has_told, told_of_called, told_of_fact, told_of_sight}
 use Rattle.audit_stats.specs.Tables.{Held, after_change, counted, full_told, has_room, told_of, with_held, without_held}
 
 -- ---- of one table

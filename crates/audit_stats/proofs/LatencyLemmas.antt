@@ -1,12 +1,12 @@
 -- Which calls wait, and how long answers took, where there was always room among the calls that wait.
-use Rattle.std.proofs.Common.{◌≡◌, ◌⊎◌, inl, inr, ℕ, ◌+◌, ◌-◌, ◌^◌, ◌<◌, ◌≤◌, min, Bool, true, false, cond, ◌&&◌, List, [], ◌∷◌, Option, None, Some, refl, ap, subst, sym, ◌∙◌, arith}
+use Rattle.std.proofs.Common.{◌≡◌, ◌⊎◌, inl, inr, ℕ, ◌+◌, ◌<◌, ◌≤◌, Bool, true, false, cond, ◌&&◌, List, [], ◌∷◌, Option, None, Some, refl, ap, sym, ◌∙◌, arith}
 use Rattle.std.specs.List.{cons_option}
 use Rattle.std.specs.Option.{unwrap_or}
 use Rattle.std.specs.Ordering.{eq_by_cmp}
 use Rattle.std.specs.FinMap.{get, insert, len, get-empty, get-insert, get-remove}
 use Rattle.std.proofs.lemmas.Bool.{and_parts}
 use Rattle.someip_tables.proofs.Entries.{own_test, same_by_test}
-use Rattle.audit_stats.specs.Changes.{after_call, no_calls, number_if, time_since, with_some}
+use Rattle.audit_stats.specs.Changes.{after_call, no_calls, time_since}
 use Rattle.audit_stats.specs.declared.full.FigureLimits.{FigureLimits}
 use Rattle.audit_stats.specs.declared.keys.Call.{Call}
 use Rattle.audit_stats.specs.declared.keys.Route.{Route}
@@ -19,9 +19,9 @@ use Rattle.audit_stats.specs.Histories.{capped, how_often, is_answer, is_call, i
 use Rattle.audit_stats.specs.Keys.{call_cmp, route_cmp}
 use Rattle.audit_stats.specs.KeyOrder.{calls, routes}
 use Rattle.audit_stats.specs.Sights.{sight_of}
-use Rattle.audit_stats.specs.Spreads.{Values, raised, spread_of}
+use Rattle.audit_stats.specs.Spreads.{Values, spread_of}
 use Rattle.audit_stats.specs.Stats.{BeganAgain, Came, Discovered, Fact, Lost, Methods, Stats, Waiting, after_fact, after_sight, methods_answered, methods_called, stats_of, waiting_answered, waiting_called, waiting_more}
-use Rattle.audit_stats.specs.Tables.{Held, after_change, counted, full_told, has_room, with_held, without_held}
+use Rattle.audit_stats.specs.Tables.{after_change, counted, full_told, has_room, with_held, without_held}
 use Rattle.audit_stats.proofs.EventLemmas.{raised_is, some_more, no_more}
 use Rattle.audit_stats.proofs.TallyLemmas.{by_change, figures_by, figures_of, held_is, len_grows, no_room, none_is, room_left, table_of}
 

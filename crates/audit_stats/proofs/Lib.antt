@@ -7,3 +7,4 @@ pub mod EventLemmas
 pub mod CallLemmas
 pub mod LatencyLemmas
 pub mod FullLemmas
+pub mod AnsweredLemmas

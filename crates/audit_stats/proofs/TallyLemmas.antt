@@ -6,7 +6,7 @@ use Rattle.std.specs.Ordering.{eq_by_cmp}
 use Rattle.std.specs.Cmp.{IsTotalOrder}
 use Rattle.std.specs.FinMap.{FinMap, IsAntisymmetric, get, insert, len, get-empty, get-insert, len-insert}
 use Rattle.std.proofs.lemmas.Bool.{ltb-true}
-use Rattle.someip_tables.proofs.Entries.{own_test, same_by_test}
+use Rattle.someip_tables.proofs.Entries.{same_by_test}
 use Rattle.audit_stats.specs.Tables.{Held, after_change, counted, empty_held, full_told, has_room}
 use Rattle.audit_stats.proofs.BucketLemmas.{not_below}
 

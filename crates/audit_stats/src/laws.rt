@@ -1,6 +1,6 @@
 //! Laws of the definitions behind the contracts. Each is the contract of a function that does nothing: it says what
 //! figures tell of a recording, whatever code keeps them.
-ghost use Rattle.std.specs.Prelude.{◌≡◌, ◌<◌, ◌+◌, ◌++◌, ◌^◌, ℕ, Bool, List, [], ◌∷◌, length, slice_get, None, Some, true, false};
+ghost use Rattle.std.specs.Prelude.{◌≡◌, ◌<◌, ◌≤◌, ◌+◌, ◌++◌, ◌^◌, ℕ, Bool, List, [], ◌∷◌, length, slice_get, None, Some, true, false};
 ghost use Rattle.std.specs.FinMap as finite;
 ghost use Rattle.someip_wire.specs.declared.header.MessageType.TheVariants as types;
 ghost use Rattle.audit_stats.specs.Changes.{no_calls, no_discovery, no_events, unanswered_of};
@@ -15,7 +15,7 @@ ghost use Rattle.audit_stats.specs.declared.methods.MethodFigures.{MethodFigures
 ghost use Rattle.audit_stats.specs.declared.sight.Part.{Part};
 ghost use Rattle.audit_stats.specs.declared.sight.Sight.TheVariants.{Answered, Called, Event};
 ghost use Rattle.audit_stats.specs.Examples.{answers, asks, event, first, last, method, sends, two_calls};
-ghost use Rattle.audit_stats.specs.Histories.{AreCounted, cycles_of, discovery_figures, event_figures, latencies_of, method_figures};
+ghost use Rattle.audit_stats.specs.Histories.{AreCounted, cycles_of, discovery_figures, event_figures, how_often, is_message, is_request, latencies_of, method_figures};
 ghost use Rattle.audit_stats.specs.Ranks.{AreBelow, IsNear, IsOfRank, Rises};
 ghost use Rattle.audit_stats.specs.Spreads.{bucket_at, low_end, quantile, rank_of, spread_of};
 ghost use Rattle.audit_stats.specs.Stats.{Discovered, Fact, Lost, Stats, after_fact, after_sight, has_told, stats_of, told_of_fact};
@@ -173,4 +173,10 @@ pub fn events_by_example()
     ensures gaps { (event_figures event (Lost event 3 ∷ Lost event 4 ∷ [])).gaps ≡ 7 }
     // What goes from the client to the server is another route.
     ensures another { event_figures event (asks 100 7 types.Notification [] ∷ []) ≡ no_events }
+{}
+
+/// No more answers of a method have a latency than calls wanted one: so those that are left are unanswered.
+pub fn no_more_are_answered_than_asked()
+    ensures { (route : Route) (facts : List Fact)
+        → length (latencies_of route facts) ≤ how_often (is_message (is_request route)) facts }
 {}

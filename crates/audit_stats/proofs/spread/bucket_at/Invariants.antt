@@ -1,7 +1,4 @@
 use Rattle.std.proofs.Common.{◌≡◌}
-use Rattle.std.specs.FinMap as finite
-use Rattle.std.specs.Ordering.{nat_cmp}
-use Rattle.someip_tables.specs.Tables.{map_of}
 use Rattle.audit_stats.specs.Spreads.{bucket_at}
 use Rattle.audit_stats.proofs.spread.bucket_at.Given as goal
 

@@ -1,4 +1,4 @@
-use Rattle.std.proofs.Common.{◌≡◌, min, arith}
+use Rattle.std.proofs.Common.{min, arith}
 use Rattle.audit_stats.proofs.BucketLemmas.{begun, found, halved}
 use Rattle.audit_stats.proofs.spread.low_end.Goals as goal
 

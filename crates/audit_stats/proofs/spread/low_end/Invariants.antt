@@ -1,5 +1,4 @@
-use Rattle.std.proofs.Common.{◌≡◌, ◌≤◌, ◌<◌, ◌*◌, ◌^◌, ◌+◌, ℕ, min}
-use Rattle.audit_stats.specs.Spreads.{low_end, low_within}
+use Rattle.std.proofs.Common.{min}
 use Rattle.audit_stats.proofs.BucketLemmas.{IsHalved}
 use Rattle.audit_stats.proofs.spread.low_end.Given as goal
 

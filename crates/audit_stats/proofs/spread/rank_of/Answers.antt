@@ -1,4 +1,3 @@
-use Rattle.std.proofs.Common.{sym, ap, ◌∙◌}
 use Rattle.audit_stats.proofs.BucketLemmas.{rank_by_hundreds}
 use Rattle.audit_stats.proofs.spread.rank_of.Goals as goal
 

@@ -1,4 +1,4 @@
-use Rattle.std.proofs.Common.{◌≡◌, cond, None, Some, rules, sym, ap, ◌∙◌}
+use Rattle.std.proofs.Common.{◌≡◌, None, Some, rules, sym, ap, ◌∙◌}
 use Rattle.std.specs.BTreeMap as tree
 use Rattle.std.specs.FinMap as finite
 use Rattle.std.specs.Option.{unwrap_or}
