@@ -11,13 +11,13 @@ use Rattle.audit_stats.specs.declared.events.EventChange.{EventChange}
 use Rattle.audit_stats.specs.declared.events.EventChange.TheVariants as of_event
 use Rattle.audit_stats.specs.declared.events.EventFigures.{EventFigures}
 use Rattle.audit_stats.specs.declared.full.FigureLimits.{FigureLimits}
-use Rattle.audit_stats.specs.declared.keys.Route.{Route}
+use Rattle.audit_stats.specs.declared.keys.Flow.{Flow}
 use Rattle.audit_stats.specs.declared.keys.Way.{Way}
 use Rattle.audit_stats.specs.declared.sight.Sight.{Sight}
 use Rattle.audit_stats.specs.declared.sight.Sight.TheVariants as sights
 use Rattle.audit_stats.specs.Histories.{bytes_in, bytes_of, capped, cycles_of, discovery_figures, event_figures, how_often, is_discovered, is_event, is_message, is_reboot, last_of, lost_in, total}
-use Rattle.audit_stats.specs.Keys.{route_cmp, way_cmp}
-use Rattle.audit_stats.specs.KeyOrder.{routes, ways}
+use Rattle.audit_stats.specs.Keys.{flow_cmp, way_cmp}
+use Rattle.audit_stats.specs.KeyOrder.{flows, ways}
 use Rattle.audit_stats.specs.Sights.{sight_of}
 use Rattle.audit_stats.specs.Spreads.{Values, raised, spread_of}
 use Rattle.audit_stats.specs.Stats.{BeganAgain, Came, Discovered, Fact, Lost, Stats, after_fact, after_sight, stats_of}
@@ -38,99 +38,99 @@ no_more n = omega arith
 
 -- ---- events
 
-event_change_of : ℕ → Sight → Option (Route × EventChange)
-event_change_of now (sights.Event route part) = Some (route, of_event.Came now part)
+event_change_of : ℕ → Sight → Option (Flow × EventChange)
+event_change_of now (sights.Event flow load) = Some (flow, of_event.Came now load)
 event_change_of now other = None
 
-event_change : List Fact → Fact → Option (Route × EventChange)
+event_change : List Fact → Fact → Option (Flow × EventChange)
 event_change earlier (Came now from to message) = event_change_of now (sight_of from to message)
-event_change earlier (Lost route number) = Some (route, of_event.Lost number)
+event_change earlier (Lost flow number) = Some (flow, of_event.Lost number)
 event_change earlier other = None
 
-abbrev event_table : ℕ → List Fact → Held route_cmp EventFigures
-event_table = table_of routes.total routes.exact no_events after_event event_change
+abbrev event_table : ℕ → List Fact → Held flow_cmp EventFigures
+event_table = table_of flows.total flows.exact no_events after_event event_change
 
-sight_step : (now : ℕ) (sight : Sight) (s : Stats) → (after_sight now sight s).events ≡ by_change routes.total routes.exact no_events after_event (event_change_of now sight) s.events
+sight_step : (now : ℕ) (sight : Sight) (s : Stats) → (after_sight now sight s).events ≡ by_change flows.total flows.exact no_events after_event (event_change_of now sight) s.events
 unfolding event_change_of
 sight_step now sights.Nothing s = refl
 sight_step now (sights.Called call asks) s = refl
 sight_step now (sights.Answered call fails) s = refl
-sight_step now (sights.Event route part) s = refl
+sight_step now (sights.Event flow load) s = refl
 
-event_step : (fact : Fact) (earlier : List Fact) (s : Stats) → (after_fact fact s).events ≡ by_change routes.total routes.exact no_events after_event (event_change earlier fact) s.events
+event_step : (fact : Fact) (earlier : List Fact) (s : Stats) → (after_fact fact s).events ≡ by_change flows.total flows.exact no_events after_event (event_change earlier fact) s.events
 unfolding event_change
 event_step (Came now from to message) earlier s = sight_step now (sight_of from to message) s
 event_step (Discovered way) earlier s = refl
-event_step (Lost route number) earlier s = refl
+event_step (Lost flow number) earlier s = refl
 event_step (BeganAgain way) earlier s = refl
 
 events_table : (limits : FigureLimits) (facts : List Fact) → (stats_of limits facts).events ≡ event_table limits.keys facts
 events_table limits [] = refl
-events_table limits (fact ∷ earlier) = event_step fact earlier (stats_of limits earlier) ∙ ap (by_change routes.total routes.exact no_events after_event (event_change earlier fact)) (events_table limits earlier)
+events_table limits (fact ∷ earlier) = event_step fact earlier (stats_of limits earlier) ∙ ap (by_change flows.total flows.exact no_events after_event (event_change earlier fact)) (events_table limits earlier)
 
 same_event : {a b c d e f : ℕ} {l m : Option ℕ} {v w : Values} → a ≡ b → c ≡ d → e ≡ f → l ≡ m → v ≡ w
     → ◌≡◌ {A = EventFigures} (record { count = a; bytes = c; gaps = e; last = l; cycle = v }) (record { count = b; bytes = d; gaps = f; last = m; cycle = w })
 same_event count bytes gaps last cycle = λ i. record { count = count i; bytes = bytes i; gaps = gaps i; last = last i; cycle = cycle i }
 
-abbrev event_by : Route → Option (Route × EventChange) → EventFigures → EventFigures
-event_by = figures_by routes.total routes.exact no_events after_event
+abbrev event_by : Flow → Option (Flow × EventChange) → EventFigures → EventFigures
+event_by = figures_by flows.total flows.exact no_events after_event
 
 -- figures with these numbers
 abbrev event_with : ℕ → ℕ → ℕ → Option ℕ → List ℕ → EventFigures
 event_with n b g last cycles = record { count = capped n; bytes = capped b; gaps = capped g; last = last; cycle = spread_of cycles }
 
 -- once one more message came
-sight_counted : (route : Route) (now : ℕ) (sight : Sight) (n b g : ℕ) (last : Option ℕ) (cycles : List ℕ)
-    → event_by route (event_change_of now sight) (event_with n b g last cycles)
-    ≡ event_with (cond (is_event route sight) (n + 1) n) (b + bytes_of route sight) (g + 0) (cond (is_event route sight) (Some now) last) (cond (is_event route sight) (cons_option (time_since now last) cycles) cycles)
+sight_counted : (flow : Flow) (now : ℕ) (sight : Sight) (n b g : ℕ) (last : Option ℕ) (cycles : List ℕ)
+    → event_by flow (event_change_of now sight) (event_with n b g last cycles)
+    ≡ event_with (cond (is_event flow sight) (n + 1) n) (b + bytes_of flow sight) (g + 0) (cond (is_event flow sight) (Some now) last) (cond (is_event flow sight) (cons_option (time_since now last) cycles) cycles)
 unfolding event_change_of
-sight_counted route now sights.Nothing n b g last cycles = same_event refl (no_more b) (no_more g) refl refl
-sight_counted route now (sights.Called call asks) n b g last cycles = same_event refl (no_more b) (no_more g) refl refl
-sight_counted route now (sights.Answered call fails) n b g last cycles = same_event refl (no_more b) (no_more g) refl refl
-sight_counted route now (sights.Event other part) n b g last cycles = cases (eq_by_cmp route_cmp route other) part.ends refl
+sight_counted flow now sights.Nothing n b g last cycles = same_event refl (no_more b) (no_more g) refl refl
+sight_counted flow now (sights.Called call asks) n b g last cycles = same_event refl (no_more b) (no_more g) refl refl
+sight_counted flow now (sights.Answered call fails) n b g last cycles = same_event refl (no_more b) (no_more g) refl refl
+sight_counted flow now (sights.Event other load) n b g last cycles = cases (eq_by_cmp flow_cmp flow other) load.ends refl
   where
-    cases : (s e : Bool) → part.ends ≡ e → cond s (after_event (of_event.Came now part) (event_with n b g last cycles)) (event_with n b g last cycles)
-        ≡ event_with (cond (s && e) (n + 1) n) (b + cond s part.bytes 0) (g + 0) (cond (s && e) (Some now) last) (cond (s && e) (cons_option (time_since now last) cycles) cycles)
-    cases true true ends = rw ends (same_event (raised_is n 1) (raised_is b part.bytes) (no_more g) refl (some_more (time_since now last) cycles))
-    cases true false ends = rw ends (same_event refl (raised_is b part.bytes) (no_more g) refl refl)
+    cases : (s e : Bool) → load.ends ≡ e → cond s (after_event (of_event.Came now load) (event_with n b g last cycles)) (event_with n b g last cycles)
+        ≡ event_with (cond (s && e) (n + 1) n) (b + cond s load.bytes 0) (g + 0) (cond (s && e) (Some now) last) (cond (s && e) (cons_option (time_since now last) cycles) cycles)
+    cases true true ends = rw ends (same_event (raised_is n 1) (raised_is b load.bytes) (no_more g) refl (some_more (time_since now last) cycles))
+    cases true false ends = rw ends (same_event refl (raised_is b load.bytes) (no_more g) refl refl)
     cases false true ends = same_event refl (no_more b) (no_more g) refl refl
     cases false false ends = same_event refl (no_more b) (no_more g) refl refl
 
 -- once more were lost
-lost_counted : (route other : Route) (number n b g : ℕ) (last : Option ℕ) (cycles : List ℕ)
-    → event_by route (Some (other, of_event.Lost number)) (event_with n b g last cycles) ≡ event_with n (b + 0) (g + cond (eq_by_cmp route_cmp route other) number 0) last cycles
-lost_counted route other number n b g last cycles = cases (eq_by_cmp route_cmp route other)
+lost_counted : (flow other : Flow) (number n b g : ℕ) (last : Option ℕ) (cycles : List ℕ)
+    → event_by flow (Some (other, of_event.Lost number)) (event_with n b g last cycles) ≡ event_with n (b + 0) (g + cond (eq_by_cmp flow_cmp flow other) number 0) last cycles
+lost_counted flow other number n b g last cycles = cases (eq_by_cmp flow_cmp flow other)
   where
     cases : (s : Bool) → cond s (after_event (of_event.Lost number) (event_with n b g last cycles)) (event_with n b g last cycles) ≡ event_with n (b + 0) (g + cond s number 0) last cycles
     cases true = same_event refl (no_more b) (raised_is g number) refl refl
     cases false = same_event refl (no_more b) (no_more g) refl refl
 
-event_counted : (route : Route) (fact : Fact) (earlier : List Fact) → event_by route (event_change earlier fact) (event_figures route earlier) ≡ event_figures route (fact ∷ earlier)
+event_counted : (flow : Flow) (fact : Fact) (earlier : List Fact) → event_by flow (event_change earlier fact) (event_figures flow earlier) ≡ event_figures flow (fact ∷ earlier)
 unfolding event_change
-event_counted route (Came now from to message) earlier =
-    sight_counted route now (sight_of from to message) (how_often (is_message (is_event route)) earlier) (total (bytes_in route) earlier) (total (lost_in route) earlier) (last_of route earlier) (cycles_of route earlier)
-event_counted route (Discovered way) earlier = same_event refl (no_more (total (bytes_in route) earlier)) (no_more (total (lost_in route) earlier)) refl refl
-event_counted route (Lost other number) earlier =
-    lost_counted route other number (how_often (is_message (is_event route)) earlier) (total (bytes_in route) earlier) (total (lost_in route) earlier) (last_of route earlier) (cycles_of route earlier)
-event_counted route (BeganAgain way) earlier = same_event refl (no_more (total (bytes_in route) earlier)) (no_more (total (lost_in route) earlier)) refl refl
+event_counted flow (Came now from to message) earlier =
+    sight_counted flow now (sight_of from to message) (how_often (is_message (is_event flow)) earlier) (total (bytes_in flow) earlier) (total (lost_in flow) earlier) (last_of flow earlier) (cycles_of flow earlier)
+event_counted flow (Discovered way) earlier = same_event refl (no_more (total (bytes_in flow) earlier)) (no_more (total (lost_in flow) earlier)) refl refl
+event_counted flow (Lost other number) earlier =
+    lost_counted flow other number (how_often (is_message (is_event flow)) earlier) (total (bytes_in flow) earlier) (total (lost_in flow) earlier) (last_of flow earlier) (cycles_of flow earlier)
+event_counted flow (BeganAgain way) earlier = same_event refl (no_more (total (bytes_in flow) earlier)) (no_more (total (lost_in flow) earlier)) refl refl
 
-abbrev event_fold : Route → List Fact → EventFigures
-event_fold = figures_of routes.total routes.exact no_events after_event event_change
+abbrev event_fold : Flow → List Fact → EventFigures
+event_fold = figures_of flows.total flows.exact no_events after_event event_change
 
-event_figures_are : (route : Route) (facts : List Fact) → event_fold route facts ≡ event_figures route facts
-event_figures_are route [] = refl
-event_figures_are route (fact ∷ earlier) = ap (event_by route (event_change earlier fact)) (event_figures_are route earlier) ∙ event_counted route fact earlier
+event_figures_are : (flow : Flow) (facts : List Fact) → event_fold flow facts ≡ event_figures flow facts
+event_figures_are flow [] = refl
+event_figures_are flow (fact ∷ earlier) = ap (event_by flow (event_change earlier fact)) (event_figures_are flow earlier) ∙ event_counted flow fact earlier
 
-pub events_held : (limits : FigureLimits) (facts : List Fact) (route : Route) (figures : EventFigures) → get (stats_of limits facts).events.values route ≡ Some figures → figures ≡ event_figures route facts
-events_held limits facts route figures is =
-    let at : get (event_table limits.keys facts).values route ≡ Some figures = ap (λ (t : Held route_cmp EventFigures). get t.values route) (sym (events_table limits facts)) ∙ is in
-    held_is routes.total routes.exact no_events after_event event_change limits.keys route facts figures at ∙ event_figures_are route facts
+pub events_held : (limits : FigureLimits) (facts : List Fact) (flow : Flow) (figures : EventFigures) → get (stats_of limits facts).events.values flow ≡ Some figures → figures ≡ event_figures flow facts
+events_held limits facts flow figures is =
+    let at : get (event_table limits.keys facts).values flow ≡ Some figures = ap (λ (t : Held flow_cmp EventFigures). get t.values flow) (sym (events_table limits facts)) ∙ is in
+    held_is flows.total flows.exact no_events after_event event_change limits.keys flow facts figures at ∙ event_figures_are flow facts
 
-pub no_events_held : (limits : FigureLimits) (facts : List Fact) (route : Route) → (stats_of limits facts).events.told_full ≡ false → get (stats_of limits facts).events.values route ≡ None → event_figures route facts ≡ no_events
-no_events_held limits facts route fits is =
-    let room : (event_table limits.keys facts).told_full ≡ false = ap (λ (t : Held route_cmp EventFigures). t.told_full) (sym (events_table limits facts)) ∙ fits in
-    let at : get (event_table limits.keys facts).values route ≡ None = ap (λ (t : Held route_cmp EventFigures). get t.values route) (sym (events_table limits facts)) ∙ is in
-    sym (event_figures_are route facts) ∙ none_is routes.total routes.exact no_events after_event event_change limits.keys route facts room at
+pub no_events_held : (limits : FigureLimits) (facts : List Fact) (flow : Flow) → (stats_of limits facts).events.told_full ≡ false → get (stats_of limits facts).events.values flow ≡ None → event_figures flow facts ≡ no_events
+no_events_held limits facts flow fits is =
+    let room : (event_table limits.keys facts).told_full ≡ false = ap (λ (t : Held flow_cmp EventFigures). t.told_full) (sym (events_table limits facts)) ∙ fits in
+    let at : get (event_table limits.keys facts).values flow ≡ None = ap (λ (t : Held flow_cmp EventFigures). get t.values flow) (sym (events_table limits facts)) ∙ is in
+    sym (event_figures_are flow facts) ∙ none_is flows.total flows.exact no_events after_event event_change limits.keys flow facts room at
 
 -- ---- Service Discovery
 
@@ -146,13 +146,13 @@ sight_leaves : (now : ℕ) (sight : Sight) (s : Stats) → (after_sight now sigh
 sight_leaves now sights.Nothing s = refl
 sight_leaves now (sights.Called call asks) s = refl
 sight_leaves now (sights.Answered call fails) s = refl
-sight_leaves now (sights.Event route part) s = refl
+sight_leaves now (sights.Event flow load) s = refl
 
 discovery_step : (fact : Fact) (earlier : List Fact) (s : Stats) → (after_fact fact s).discovery ≡ by_change ways.total ways.exact no_discovery after_discovery (discovery_change earlier fact) s.discovery
 unfolding discovery_change
 discovery_step (Came now from to message) earlier s = sight_leaves now (sight_of from to message) s
 discovery_step (Discovered way) earlier s = refl
-discovery_step (Lost route number) earlier s = refl
+discovery_step (Lost flow number) earlier s = refl
 discovery_step (BeganAgain way) earlier s = refl
 
 discovery_is : (limits : FigureLimits) (facts : List Fact) → (stats_of limits facts).discovery ≡ discovery_table limits.keys facts
@@ -171,7 +171,7 @@ discovery_counted way (Discovered other) earlier = cases (eq_by_cmp way_cmp way 
         ≡ record { messages = capped (cond s (how_often (is_discovered way) earlier + 1) (how_often (is_discovered way) earlier)); reboots = capped (how_often (is_reboot way) earlier) }
     cases true = ap (λ n. record { messages = n; reboots = capped (how_often (is_reboot way) earlier) }) (raised_is (how_often (is_discovered way) earlier) 1)
     cases false = refl
-discovery_counted way (Lost route number) earlier = refl
+discovery_counted way (Lost flow number) earlier = refl
 discovery_counted way (BeganAgain other) earlier = cases (eq_by_cmp way_cmp way other)
   where
     cases : (s : Bool) → cond s (after_discovery of_discovery.BeganAgain (discovery_figures way earlier)) (discovery_figures way earlier)

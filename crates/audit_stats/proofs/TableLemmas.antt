@@ -1,5 +1,5 @@
 -- What a change of an ordered map makes of the map that it shows.
-use Rattle.std.proofs.Common.{◌≡◌, Bool, true, false, cond, None, Some, Result, Ok, Err, refl, ap, sym, ◌∙◌}
+use Rattle.std.proofs.Common.{◌≡◌, ℕ, nat_lt, Bool, true, false, cond, ◌||◌, Option, None, Some, Result, Ok, Err, refl, ap, sym, ◌∙◌}
 use Rattle.std.specs.Prelude.{OnOk, OnErr}
 use Rattle.std.specs.declared.cmp.Ordering.{Ordering}
 use Rattle.std.specs.Ordering.{eq_by_cmp}
@@ -15,6 +15,10 @@ on_ok_from (Err e) f p = tt
 pub on_err_from : {T E P Q : Type 0} (r : Result T E) → (P → Q) → OnErr r P → OnErr r Q
 on_err_from (Ok x) f p = tt
 on_err_from (Err e) f p = f p
+
+-- whether a key has room, by what was found
+pub room_is : (may held has : Bool) (count len limit : ℕ) → may ≡ (held || nat_lt count limit) → held ≡ has → count ≡ len → may ≡ (has || nat_lt len limit)
+room_is may held has count len limit is has_is len_is = is ∙ (λ i. has_is i || nat_lt (len_is i) limit)
 
 module _ {K V : Type 0} {R : K → K → Ordering} (o : IsTotalOrder R) (exact : IsAntisymmetric R) where
   -- what a key has already changes nothing

@@ -47,9 +47,9 @@ abbrev pub no_events : EventFigures
 no_events = record { count = 0; bytes = 0; gaps = 0; last = None; cycle = no_values }
 
 abbrev pub after_event : EventChange → EventFigures → EventFigures
-after_event (of_event.Came at part) f =
-    if part.ends then record f { count = raised f.count 1; bytes = raised f.bytes part.bytes; last = Some at; cycle = with_some (time_since at f.last) f.cycle }
-    else record f { bytes = raised f.bytes part.bytes }
+after_event (of_event.Came at load) f =
+    if load.ends then record f { count = raised f.count 1; bytes = raised f.bytes load.bytes; last = Some at; cycle = with_some (time_since at f.last) f.cycle }
+    else record f { bytes = raised f.bytes load.bytes }
 after_event (of_event.Lost number) f = record f { gaps = raised f.gaps number }
 
 -- ---- Service Discovery

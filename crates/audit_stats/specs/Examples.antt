@@ -4,7 +4,7 @@ use Rattle.std.specs.declared.net.socket_addr.SocketAddrV4.{SocketAddrV4}
 use Rattle.someip_wire.specs.declared.header.Header.{Header}
 use Rattle.someip_wire.specs.declared.header.MessageType.{MessageType}
 use Rattle.someip_wire.specs.declared.header.MessageType.TheVariants as types
-use Rattle.audit_stats.specs.declared.keys.Route.{Route}
+use Rattle.audit_stats.specs.declared.keys.Flow.{Flow}
 use Rattle.audit_stats.specs.Stats.{Came, Fact}
 
 -- 192.168.0.n:40000
@@ -12,10 +12,10 @@ abbrev pub node : ℕ → SocketAddrV4
 node n = record { ip = record { octets = 192 ∷ 168 ∷ 0 ∷ n ∷ [] }; port = 40000 }
 
 -- method 0421 of service 1234, which the client calls, and event 8421, which the server sends
-abbrev pub method : Route
+abbrev pub method : Flow
 method = record { service = 0x1234; method = 0x0421; from = node 1; to = node 2 }
 
-abbrev pub event : Route
+abbrev pub event : Flow
 event = record { service = 0x1234; method = 0x8421; from = node 2; to = node 1 }
 
 -- a header of Client ID 1

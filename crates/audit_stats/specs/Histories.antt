@@ -6,12 +6,12 @@ use Rattle.audit_stats.specs.Changes.{time_since}
 use Rattle.audit_stats.specs.declared.discovery.DiscoveryFigures.{DiscoveryFigures}
 use Rattle.audit_stats.specs.declared.events.EventFigures.{EventFigures}
 use Rattle.audit_stats.specs.declared.keys.Call.{Call}
-use Rattle.audit_stats.specs.declared.keys.Route.{Route}
+use Rattle.audit_stats.specs.declared.keys.Flow.{Flow}
 use Rattle.audit_stats.specs.declared.keys.Way.{Way}
 use Rattle.audit_stats.specs.declared.methods.MethodFigures.{MethodFigures}
 use Rattle.audit_stats.specs.declared.sight.Sight.{Sight}
 use Rattle.audit_stats.specs.declared.sight.Sight.TheVariants.{Answered, Called, Event}
-use Rattle.audit_stats.specs.Keys.{call_cmp, route_cmp, way_cmp}
+use Rattle.audit_stats.specs.Keys.{call_cmp, flow_cmp, way_cmp}
 use Rattle.audit_stats.specs.Sights.{sight_of}
 use Rattle.audit_stats.specs.Spreads.{spread_of}
 use Rattle.audit_stats.specs.Stats.{BeganAgain, Came, Discovered, Fact, Lost}
@@ -37,22 +37,22 @@ is_message test other = false
 
 -- ---- methods
 
--- it is a call of a route; one that wants an answer; an answer; an answer that is an error
-abbrev pub is_call : Route → Sight → Bool
-is_call route (Called call asks) = eq_by_cmp route_cmp route call.route
-is_call route other = false
+-- it is a call of a flow; one that wants an answer; an answer; an answer that is an error
+abbrev pub is_call : Flow → Sight → Bool
+is_call flow (Called call asks) = eq_by_cmp flow_cmp flow call.flow
+is_call flow other = false
 
-abbrev pub is_request : Route → Sight → Bool
-is_request route (Called call asks) = eq_by_cmp route_cmp route call.route && asks
-is_request route other = false
+abbrev pub is_request : Flow → Sight → Bool
+is_request flow (Called call asks) = eq_by_cmp flow_cmp flow call.flow && asks
+is_request flow other = false
 
-abbrev pub is_answer : Route → Sight → Bool
-is_answer route (Answered call fails) = eq_by_cmp route_cmp route call.route
-is_answer route other = false
+abbrev pub is_answer : Flow → Sight → Bool
+is_answer flow (Answered call fails) = eq_by_cmp flow_cmp flow call.flow
+is_answer flow other = false
 
-abbrev pub is_failure : Route → Sight → Bool
-is_failure route (Answered call fails) = eq_by_cmp route_cmp route call.route && fails
-is_failure route other = false
+abbrev pub is_failure : Flow → Sight → Bool
+is_failure flow (Answered call fails) = eq_by_cmp flow_cmp flow call.flow && fails
+is_failure flow other = false
 
 -- since when a call waits, once a message came: a call that wants an answer waits from then on, also where one with its key did,
 -- and with an answer it waits no more
@@ -67,69 +67,69 @@ waiting_since call [] = None
 waiting_since call (Came now from to message ∷ earlier) = waits_since call now (sight_of from to message) (waiting_since call earlier)
 waiting_since call (other ∷ earlier) = waiting_since call earlier
 
--- how long an answer took, if it is one of a route, and its call waits
-abbrev pub latency_of : Route → ℕ → Sight → List Fact → Option ℕ
-latency_of route now (Answered call fails) earlier = if eq_by_cmp route_cmp route call.route then time_since now (waiting_since call earlier) else None
-latency_of route now other earlier = None
+-- how long an answer took, if it is one of a flow, and its call waits
+abbrev pub latency_of : Flow → ℕ → Sight → List Fact → Option ℕ
+latency_of flow now (Answered call fails) earlier = if eq_by_cmp flow_cmp flow call.flow then time_since now (waiting_since call earlier) else None
+latency_of flow now other earlier = None
 
--- how long the answers of a route took
-abbrev pub latencies_of : Route → List Fact → List ℕ
-latencies_of route [] = []
-latencies_of route (Came now from to message ∷ earlier) = cons_option (latency_of route now (sight_of from to message) earlier) (latencies_of route earlier)
-latencies_of route (other ∷ earlier) = latencies_of route earlier
+-- how long the answers of a flow took
+abbrev pub latencies_of : Flow → List Fact → List ℕ
+latencies_of flow [] = []
+latencies_of flow (Came now from to message ∷ earlier) = cons_option (latency_of flow now (sight_of from to message) earlier) (latencies_of flow earlier)
+latencies_of flow (other ∷ earlier) = latencies_of flow earlier
 
 -- the figures of a method
-abbrev pub method_figures : Route → List Fact → MethodFigures
-method_figures route facts = record {
-  calls = capped (how_often (is_message (is_call route)) facts);
-  answers = capped (how_often (is_message (is_answer route)) facts);
-  errors = capped (how_often (is_message (is_failure route)) facts);
-  waited = capped (how_often (is_message (is_request route)) facts);
-  latency = spread_of (latencies_of route facts);
+abbrev pub method_figures : Flow → List Fact → MethodFigures
+method_figures flow facts = record {
+  calls = capped (how_often (is_message (is_call flow)) facts);
+  answers = capped (how_often (is_message (is_answer flow)) facts);
+  errors = capped (how_often (is_message (is_failure flow)) facts);
+  waited = capped (how_often (is_message (is_request flow)) facts);
+  latency = spread_of (latencies_of flow facts);
 }
 
 -- ---- events
 
--- it is an event of a route, or the last segment of one
-abbrev pub is_event : Route → Sight → Bool
-is_event route (Event other part) = eq_by_cmp route_cmp route other && part.ends
-is_event route other = false
+-- it is an event of a flow, or the last segment of one
+abbrev pub is_event : Flow → Sight → Bool
+is_event flow (Event other load) = eq_by_cmp flow_cmp flow other && load.ends
+is_event flow other = false
 
--- how many bytes of the events of a route it brings
-abbrev pub bytes_of : Route → Sight → ℕ
-bytes_of route (Event other part) = if eq_by_cmp route_cmp route other then part.bytes else 0
-bytes_of route other = 0
+-- how many bytes of the events of a flow it brings
+abbrev pub bytes_of : Flow → Sight → ℕ
+bytes_of flow (Event other load) = if eq_by_cmp flow_cmp flow other then load.bytes else 0
+bytes_of flow other = 0
 
-abbrev pub bytes_in : Route → Fact → ℕ
-bytes_in route (Came now from to message) = bytes_of route (sight_of from to message)
-bytes_in route other = 0
+abbrev pub bytes_in : Flow → Fact → ℕ
+bytes_in flow (Came now from to message) = bytes_of flow (sight_of from to message)
+bytes_in flow other = 0
 
--- how many sessions of the events of a route were lost
-abbrev pub lost_in : Route → Fact → ℕ
-lost_in route (Lost other number) = if eq_by_cmp route_cmp route other then number else 0
-lost_in route other = 0
+-- how many sessions of the events of a flow were lost
+abbrev pub lost_in : Flow → Fact → ℕ
+lost_in flow (Lost other number) = if eq_by_cmp flow_cmp flow other then number else 0
+lost_in flow other = 0
 
--- when the event of a route came last
-abbrev pub last_of : Route → List Fact → Option ℕ
-last_of route [] = None
-last_of route (Came now from to message ∷ earlier) = if is_event route (sight_of from to message) then Some now else last_of route earlier
-last_of route (other ∷ earlier) = last_of route earlier
+-- when the event of a flow came last
+abbrev pub last_of : Flow → List Fact → Option ℕ
+last_of flow [] = None
+last_of flow (Came now from to message ∷ earlier) = if is_event flow (sight_of from to message) then Some now else last_of flow earlier
+last_of flow (other ∷ earlier) = last_of flow earlier
 
 -- how long it took from each to the next
-abbrev pub cycles_of : Route → List Fact → List ℕ
-cycles_of route [] = []
-cycles_of route (Came now from to message ∷ earlier) =
-    if is_event route (sight_of from to message) then cons_option (time_since now (last_of route earlier)) (cycles_of route earlier) else cycles_of route earlier
-cycles_of route (other ∷ earlier) = cycles_of route earlier
+abbrev pub cycles_of : Flow → List Fact → List ℕ
+cycles_of flow [] = []
+cycles_of flow (Came now from to message ∷ earlier) =
+    if is_event flow (sight_of from to message) then cons_option (time_since now (last_of flow earlier)) (cycles_of flow earlier) else cycles_of flow earlier
+cycles_of flow (other ∷ earlier) = cycles_of flow earlier
 
 -- the figures of an event
-abbrev pub event_figures : Route → List Fact → EventFigures
-event_figures route facts = record {
-  count = capped (how_often (is_message (is_event route)) facts);
-  bytes = capped (total (bytes_in route) facts);
-  gaps = capped (total (lost_in route) facts);
-  last = last_of route facts;
-  cycle = spread_of (cycles_of route facts);
+abbrev pub event_figures : Flow → List Fact → EventFigures
+event_figures flow facts = record {
+  count = capped (how_often (is_message (is_event flow)) facts);
+  bytes = capped (total (bytes_in flow) facts);
+  gaps = capped (total (lost_in flow) facts);
+  last = last_of flow facts;
+  cycle = spread_of (cycles_of flow facts);
 }
 
 -- ---- Service Discovery
@@ -149,8 +149,8 @@ discovery_figures way facts = record { messages = capped (how_often (is_discover
 
 -- ---- what is counted whether or not calls are waited for
 
-abbrev pub AreCounted : Route → List Fact → MethodFigures → Type 0
-AreCounted route facts figures =
-    (figures.calls ≡ capped (how_often (is_message (is_call route)) facts))
-    × (figures.answers ≡ capped (how_often (is_message (is_answer route)) facts))
-    × (figures.errors ≡ capped (how_often (is_message (is_failure route)) facts))
+abbrev pub AreCounted : Flow → List Fact → MethodFigures → Type 0
+AreCounted flow facts figures =
+    (figures.calls ≡ capped (how_often (is_message (is_call flow)) facts))
+    × (figures.answers ≡ capped (how_often (is_message (is_answer flow)) facts))
+    × (figures.errors ≡ capped (how_often (is_message (is_failure flow)) facts))

@@ -14,19 +14,19 @@ use Rattle.audit_stats.specs.declared.full.Full.{Full}
 use Rattle.audit_stats.specs.declared.full.Full.TheVariants as full
 use Rattle.audit_stats.specs.declared.full.FigureLimits.{FigureLimits}
 use Rattle.audit_stats.specs.declared.keys.Call.{Call}
-use Rattle.audit_stats.specs.declared.keys.Route.{Route}
+use Rattle.audit_stats.specs.declared.keys.Flow.{Flow}
 use Rattle.audit_stats.specs.declared.keys.Way.{Way}
 use Rattle.audit_stats.specs.declared.methods.CallChange.TheVariants as of_call
 use Rattle.audit_stats.specs.declared.methods.MethodFigures.{MethodFigures}
 use Rattle.audit_stats.specs.declared.sight.Sight.{Sight}
 use Rattle.audit_stats.specs.declared.sight.Sight.TheVariants as sights
-use Rattle.audit_stats.specs.Keys.{call_cmp, coded_call, coded_route, coded_way, route_cmp, way_cmp}
+use Rattle.audit_stats.specs.Keys.{call_cmp, coded_call, coded_flow, coded_way, flow_cmp, way_cmp}
 use Rattle.audit_stats.specs.Sights.{sight_of}
 use Rattle.audit_stats.specs.Tables.{Held, after_change, coded_held, counted, empty_held, full_told, has_room, told_of, with_held, without_held}
 
 -- the figures of methods, and since when calls wait for their answers
 abbrev pub Methods : Type 0
-Methods = Held route_cmp MethodFigures
+Methods = Held flow_cmp MethodFigures
 
 abbrev pub Waiting : Type 0
 Waiting = Held call_cmp ℕ
@@ -34,7 +34,7 @@ Waiting = Held call_cmp ℕ
 -- all figures of a recording
 pub record Stats : Type 0 where
   pub methods : Methods
-  pub events : Held route_cmp EventFigures
+  pub events : Held flow_cmp EventFigures
   pub discovery : Held way_cmp DiscoveryFigures
   pub waiting : Waiting
 
@@ -51,25 +51,25 @@ waiting_more now call asks w = if asks then (if has_room call w then with_held c
 -- a call came: it is counted, if its method has room, and else nothing else changes
 abbrev pub methods_called : Call → Bool → Methods → Waiting → Methods
 methods_called call asks m w =
-    if has_room call.route m then counted no_calls after_call call.route (of_call.Called (asks && has_room call w)) m else full_told m
+    if has_room call.flow m then counted no_calls after_call call.flow (of_call.Called (asks && has_room call w)) m else full_told m
 
 abbrev pub waiting_called : ℕ → Call → Bool → Methods → Waiting → Waiting
-waiting_called now call asks m w = if has_room call.route m then waiting_more now call asks w else w
+waiting_called now call asks m w = if has_room call.flow m then waiting_more now call asks w else w
 
 -- what is told of it: that there is no room for its method, or none among the calls that wait
 abbrev pub told_of_called : Call → Bool → Methods → Waiting → Option Full
 told_of_called call asks m w =
-    if has_room call.route m then (if asks then told_of full.Calls call w else None) else told_when_full full.Methods m.told_full
+    if has_room call.flow m then (if asks then told_of full.Calls call w else None) else told_when_full full.Methods m.told_full
 
 -- ---- answers
 
 -- an answer came: it is counted, with the time since its call, if that waits
 abbrev pub methods_answered : ℕ → Call → Bool → Methods → Waiting → Methods
-methods_answered now call fails m w = after_change no_calls after_call call.route (of_call.Answered fails (time_since now (finite.get w.values call))) m
+methods_answered now call fails m w = after_change no_calls after_call call.flow (of_call.Answered fails (time_since now (finite.get w.values call))) m
 
 -- its call waits no more
 abbrev pub waiting_answered : Call → Methods → Waiting → Waiting
-waiting_answered call m w = if has_room call.route m then without_held call w else w
+waiting_answered call m w = if has_room call.flow m then without_held call w else w
 
 -- ---- all that is seen
 
@@ -78,7 +78,7 @@ waiting_answered call m w = if has_room call.route m then without_held call w el
 pub data Fact : Type 0 where
   Came : ℕ → SocketAddrV4 → SocketAddrV4 → MessageValue → Fact
   Discovered : Way → Fact
-  Lost : Route → ℕ → Fact
+  Lost : Flow → ℕ → Fact
   BeganAgain : Way → Fact
 
 -- what a message makes of the figures, by what it is
@@ -86,26 +86,26 @@ abbrev pub after_sight : ℕ → Sight → Stats → Stats
 after_sight now sights.Nothing s = s
 after_sight now (sights.Called call asks) s = record s { methods = methods_called call asks s.methods s.waiting; waiting = waiting_called now call asks s.methods s.waiting }
 after_sight now (sights.Answered call fails) s = record s { methods = methods_answered now call fails s.methods s.waiting; waiting = waiting_answered call s.methods s.waiting }
-after_sight now (sights.Event route part) s = record s { events = after_change no_events after_event route (of_event.Came now part) s.events }
+after_sight now (sights.Event flow load) s = record s { events = after_change no_events after_event flow (of_event.Came now load) s.events }
 
 -- the figures once something was seen
 abbrev pub after_fact : Fact → Stats → Stats
 after_fact (Came now from to message) s = after_sight now (sight_of from to message) s
 after_fact (Discovered way) s = record s { discovery = after_change no_discovery after_discovery way of_discovery.Came s.discovery }
-after_fact (Lost route number) s = record s { events = after_change no_events after_event route (of_event.Lost number) s.events }
+after_fact (Lost flow number) s = record s { events = after_change no_events after_event flow (of_event.Lost number) s.events }
 after_fact (BeganAgain way) s = record s { discovery = after_change no_discovery after_discovery way of_discovery.BeganAgain s.discovery }
 
 -- what is told of it: that there is no room for it, once for each of the four
 abbrev pub told_of_sight : Sight → Stats → Option Full
 told_of_sight sights.Nothing s = None
 told_of_sight (sights.Called call asks) s = told_of_called call asks s.methods s.waiting
-told_of_sight (sights.Answered call fails) s = told_of full.Methods call.route s.methods
-told_of_sight (sights.Event route part) s = told_of full.Events route s.events
+told_of_sight (sights.Answered call fails) s = told_of full.Methods call.flow s.methods
+told_of_sight (sights.Event flow load) s = told_of full.Events flow s.events
 
 abbrev pub told_of_fact : Fact → Stats → Option Full
 told_of_fact (Came now from to message) s = told_of_sight (sight_of from to message) s
 told_of_fact (Discovered way) s = told_of full.Discovery way s.discovery
-told_of_fact (Lost route number) s = told_of full.Events route s.events
+told_of_fact (Lost flow number) s = told_of full.Events flow s.events
 told_of_fact (BeganAgain way) s = told_of full.Discovery way s.discovery
 
 -- the figures of a history, which has the newest first
@@ -117,8 +117,8 @@ stats_of limits (fact ∷ earlier) = after_fact fact (stats_of limits earlier)
 
 abbrev pub coded_stats : Coded Stats
 coded_stats =
-    code_by ((Methods × Held route_cmp EventFigures) × (Held way_cmp DiscoveryFigures × Waiting))
-    (coded× (coded× (coded_held coded_route coded_method_figures) (coded_held coded_route coded_event_figures)) (coded× (coded_held coded_way coded_discovery_figures) (coded_held coded_call coded_ℕ)))
+    code_by ((Methods × Held flow_cmp EventFigures) × (Held way_cmp DiscoveryFigures × Waiting))
+    (coded× (coded× (coded_held coded_flow coded_method_figures) (coded_held coded_flow coded_event_figures)) (coded× (coded_held coded_way coded_discovery_figures) (coded_held coded_call coded_ℕ)))
     (λ s. ((s.methods, s.events), (s.discovery, s.waiting))) (λ c. record { methods = c.0.0; events = c.0.1; discovery = c.1.0; waiting = c.1.1 }) (λ _. refl)
 
 -- ---- what was told

@@ -4,19 +4,19 @@ ghost use Rattle.std.specs.FinMap as finite;
 ghost use Rattle.audit_stats.specs.Changes.{after_call, no_calls};
 ghost use Rattle.audit_stats.specs.declared.full.Full.TheVariants as full;
 ghost use Rattle.audit_stats.specs.declared.methods.CallChange.TheVariants as of_call;
-ghost use Rattle.audit_stats.specs.Keys.{call_cmp, route_cmp};
+ghost use Rattle.audit_stats.specs.Keys.{call_cmp, flow_cmp};
 ghost use Rattle.audit_stats.specs.Stats.{Waiting, methods_answered, methods_called, told_of_called, waiting_answered, waiting_called};
 ghost use Rattle.audit_stats.specs.Tables.{counted, held_by, told_of, with_held};
 
 use crate::events::time_since;
 use crate::full::Full;
-use crate::keys::{Call, Route};
+use crate::keys::{Call, Flow};
 use crate::methods::{CallChange, MethodFigures};
 use crate::table::Table;
 use std::alloc::AllocError;
 
 /// The figures of methods.
-pub(crate) type MethodTable = Table<Route, MethodFigures>;
+pub(crate) type MethodTable = Table<Flow, MethodFigures>;
 
 /// Since when calls wait for their answers, in microseconds.
 pub(crate) type WaitTable = Table<Call, u64>;
@@ -30,23 +30,23 @@ pub(crate) fn called(
     asks: bool,
 ) -> Result<Option<Full>, AllocError>
     ensures told { IfOk result (λ told. told
-        ≡ told_of_called call asks (held_by route_cmp methods.old) (held_by call_cmp waiting.old)) }
-    ensures methods { OnOk result (held_by route_cmp methods.new
-        ≡ methods_called call asks (held_by route_cmp methods.old) (held_by call_cmp waiting.old)) }
+        ≡ told_of_called call asks (held_by flow_cmp methods.old) (held_by call_cmp waiting.old)) }
+    ensures methods { OnOk result (held_by flow_cmp methods.new
+        ≡ methods_called call asks (held_by flow_cmp methods.old) (held_by call_cmp waiting.old)) }
     ensures waiting { OnOk result (held_by call_cmp waiting.new
-        ≡ waiting_called now call asks (held_by route_cmp methods.old) (held_by call_cmp waiting.old)) }
-    ensures err { OnErr result (held_by route_cmp methods.new ≡ held_by route_cmp methods.old) }
+        ≡ waiting_called now call asks (held_by flow_cmp methods.old) (held_by call_cmp waiting.old)) }
+    ensures err { OnErr result (held_by flow_cmp methods.new ≡ held_by flow_cmp methods.old) }
     ensures err_waiting { OnErr result (held_by call_cmp waiting.new ≡ held_by call_cmp waiting.old) }
 {
-    if !methods.has_room(&call.route) {
+    if !methods.has_room(&call.flow) {
         return Ok(methods.tell_full(Full::Methods));
     }
     if !asks {
-        methods.count(call.route, CallChange::Called(false))?;
+        methods.count(call.flow, CallChange::Called(false))?;
         return Ok(None);
     }
     if !waiting.has_room(&call) {
-        methods.count(call.route, CallChange::Called(false))?;
+        methods.count(call.flow, CallChange::Called(false))?;
         return Ok(waiting.tell_full(Full::Calls));
     }
     open(methods, waiting, now, call)?;
@@ -60,15 +60,15 @@ fn open(
     now: u64,
     call: Call,
 ) -> Result<(), AllocError>
-    ensures methods { OnOk result (held_by route_cmp methods.new
-        ≡ counted no_calls after_call call.route (of_call.Called true) (held_by route_cmp methods.old)) }
+    ensures methods { OnOk result (held_by flow_cmp methods.new
+        ≡ counted no_calls after_call call.flow (of_call.Called true) (held_by flow_cmp methods.old)) }
     ensures waiting { OnOk result (held_by call_cmp waiting.new ≡ with_held call now (held_by call_cmp waiting.old)) }
-    ensures err { OnErr result (held_by route_cmp methods.new ≡ held_by route_cmp methods.old) }
+    ensures err { OnErr result (held_by flow_cmp methods.new ≡ held_by flow_cmp methods.old) }
     ensures err_waiting { OnErr result (held_by call_cmp waiting.new ≡ held_by call_cmp waiting.old) }
 {
     let before = waiting.get(call);
     waiting.put(call, now)?;
-    match methods.count(call.route, CallChange::Called(true)) {
+    match methods.count(call.flow, CallChange::Called(true)) {
         Ok(()) => Ok(()),
         Err(_) => {
             take_back(waiting, call, before);
@@ -98,19 +98,19 @@ pub(crate) fn answered(
     call: Call,
     fails: bool,
 ) -> Result<Option<Full>, AllocError>
-    ensures told { IfOk result (λ told. told ≡ told_of full.Methods call.route (held_by route_cmp methods.old)) }
-    ensures methods { OnOk result (held_by route_cmp methods.new
-        ≡ methods_answered now call fails (held_by route_cmp methods.old) (held_by call_cmp waiting.old)) }
+    ensures told { IfOk result (λ told. told ≡ told_of full.Methods call.flow (held_by flow_cmp methods.old)) }
+    ensures methods { OnOk result (held_by flow_cmp methods.new
+        ≡ methods_answered now call fails (held_by flow_cmp methods.old) (held_by call_cmp waiting.old)) }
     ensures waiting { OnOk result (held_by call_cmp waiting.new
-        ≡ waiting_answered call (held_by route_cmp methods.old) (held_by call_cmp waiting.old)) }
-    ensures err { OnErr result (held_by route_cmp methods.new ≡ held_by route_cmp methods.old) }
+        ≡ waiting_answered call (held_by flow_cmp methods.old) (held_by call_cmp waiting.old)) }
+    ensures err { OnErr result (held_by flow_cmp methods.new ≡ held_by flow_cmp methods.old) }
     ensures err_waiting { OnErr result (held_by call_cmp waiting.new ≡ held_by call_cmp waiting.old) }
 {
-    if !methods.has_room(&call.route) {
+    if !methods.has_room(&call.flow) {
         return Ok(methods.tell_full(Full::Methods));
     }
     let latency = time_since(now, waiting.get(call));
-    methods.count(call.route, CallChange::Answered(fails, latency))?;
+    methods.count(call.flow, CallChange::Answered(fails, latency))?;
     waiting.remove(&call);
     Ok(None)
 }

@@ -4,8 +4,9 @@ ghost use Rattle.std.specs.Prelude.{◌≡◌, OnErr, OnOk};
 use std::alloc::{AllocError, Global};
 
 /// Figures that changes are counted into.
-pub trait Counts<C: Copy>: Drop {
+pub(crate) trait Counts<C: Copy>: Drop {
     ghost none: { Self };
+
     ghost after: { C → Self → Self };
 
     /// No change was counted yet. It takes no memory.

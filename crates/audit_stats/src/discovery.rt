@@ -4,7 +4,7 @@ use std::alloc::{AllocError, Global};
 
 /// What is counted under a way of Service Discovery.
 #[derive(Clone, Copy)]
-pub enum DiscoveryChange {
+pub(crate) enum DiscoveryChange {
     /// A message came.
     Came,
     /// The sender began again.
@@ -24,6 +24,7 @@ impl Counts<DiscoveryChange> for DiscoveryFigures {
     ghost use Rattle.audit_stats.specs.Changes.{after_discovery, no_discovery};
 
     ghost none = { no_discovery };
+
     ghost after = { after_discovery };
 
     fn none(_alloc: Global) -> DiscoveryFigures {

@@ -4,15 +4,15 @@ ghost use Rattle.audit_stats.specs.Changes.{time_since};
 
 use crate::counts::Counts;
 use crate::methods::add_some;
-use crate::sight::Part;
+use crate::sight::Load;
 use crate::spread::Spread;
 use std::alloc::{AllocError, Global};
 
-/// What is counted under the route of an event.
+/// What is counted of an event.
 #[derive(Clone, Copy)]
-pub enum EventChange {
+pub(crate) enum EventChange {
     /// A message or a segment came at a moment, in microseconds.
-    Came(u64, Part),
+    Came(u64, Load),
     /// So many sessions were told as lost.
     Lost(u64),
 }
@@ -36,6 +36,7 @@ impl Counts<EventChange> for EventFigures {
     ghost use Rattle.audit_stats.specs.Changes.{after_event, no_events};
 
     ghost none = { no_events };
+
     ghost after = { after_event };
 
     fn none(alloc: Global) -> EventFigures {
@@ -50,13 +51,13 @@ impl Counts<EventChange> for EventFigures {
 
     fn count(&mut self, change: EventChange) -> Result<(), AllocError> {
         match change {
-            EventChange::Came(at, part) => {
-                if part.ends {
+            EventChange::Came(at, load) => {
+                if load.ends {
                     add_some(&mut self.cycle, time_since(at, self.last))?;
                     self.count = self.count.saturating_add(1);
                     self.last = Some(at);
                 }
-                self.bytes = self.bytes.saturating_add(part.bytes);
+                self.bytes = self.bytes.saturating_add(load.bytes);
             }
             EventChange::Lost(number) => self.gaps = self.gaps.saturating_add(number),
         }

@@ -5,7 +5,7 @@ ghost use Rattle.std.specs.Map.Iter.{ShowsInOrder, deref_pair};
 ghost use Rattle.someip_wire.specs.View.{view};
 ghost use Rattle.audit_stats.specs.declared.discovery.DiscoveryFigures.{DiscoveryFigures};
 ghost use Rattle.audit_stats.specs.declared.events.EventFigures.{EventFigures};
-ghost use Rattle.audit_stats.specs.declared.keys.Route.{Route};
+ghost use Rattle.audit_stats.specs.declared.keys.Flow.{Flow};
 ghost use Rattle.audit_stats.specs.declared.keys.Way.{Way};
 ghost use Rattle.audit_stats.specs.declared.methods.MethodFigures.{MethodFigures};
 ghost use Rattle.audit_stats.specs.Stats.{BeganAgain, Came, Discovered, Lost, after_fact, no_stats, told_of_fact};
@@ -14,7 +14,7 @@ use crate::calls::{MethodTable, WaitTable, answered, called};
 use crate::discovery::{DiscoveryChange, DiscoveryFigures};
 use crate::events::{EventChange, EventFigures};
 use crate::full::{FigureLimits, Full};
-use crate::keys::{Route, Way};
+use crate::keys::{Flow, Way};
 use crate::methods::MethodFigures;
 use crate::sight::{Sight, sight_of};
 use crate::table::Table;
@@ -28,13 +28,13 @@ use std::net::SocketAddrV4;
 #[derive(Drop)]
 pub struct Figures {
     methods: MethodTable,
-    events: Table<Route, EventFigures>,
+    events: Table<Flow, EventFigures>,
     discovery: Table<Way, DiscoveryFigures>,
     waiting: WaitTable,
 }
 
 impl Model for Figures {
-    ghost use Rattle.audit_stats.specs.Keys.{call_cmp, route_cmp, way_cmp};
+    ghost use Rattle.audit_stats.specs.Keys.{call_cmp, flow_cmp, way_cmp};
     ghost use Rattle.audit_stats.specs.Stats.{Stats, coded_stats};
     ghost use Rattle.audit_stats.specs.Tables.{held_by};
 
@@ -43,8 +43,8 @@ impl Model for Figures {
     ghost coded = { coded_stats };
 
     ghost view = { λ f. record {
-      methods = held_by route_cmp f.methods;
-      events = held_by route_cmp f.events;
+      methods = held_by flow_cmp f.methods;
+      events = held_by flow_cmp f.events;
       discovery = held_by way_cmp f.discovery;
       waiting = held_by call_cmp f.waiting;
     } };
@@ -85,9 +85,9 @@ impl Figures {
             Sight::Answered(call, fails) => {
                 answered(&mut self.methods, &mut self.waiting, now_us, call, fails)
             }
-            Sight::Event(route, part) => {
-                let change = EventChange::Came(now_us, part);
-                self.events.came(route, change, Full::Events)
+            Sight::Event(flow, load) => {
+                let change = EventChange::Came(now_us, load);
+                self.events.came(flow, change, Full::Events)
             }
         }
     }
@@ -105,13 +105,13 @@ impl Figures {
 
     /// Takes note that so many sessions of an event were told as lost, and tells if there is no room for it. What is
     /// refused for want of memory leaves the figures as they were.
-    pub fn lost(&mut self, route: Route, number: u64) -> Result<Option<Full>, AllocError>
-        ensures told { IfOk result (λ told. told ≡ told_of_fact (Lost route number) self.old) }
-        ensures after { OnOk result (self.new ≡ after_fact (Lost route number) self.old) }
+    pub fn lost(&mut self, flow: Flow, number: u64) -> Result<Option<Full>, AllocError>
+        ensures told { IfOk result (λ told. told ≡ told_of_fact (Lost flow number) self.old) }
+        ensures after { OnOk result (self.new ≡ after_fact (Lost flow number) self.old) }
         ensures err { OnErr result (self.new ≡ self.old) }
     {
         self.events
-            .came(route, EventChange::Lost(number), Full::Events)
+            .came(flow, EventChange::Lost(number), Full::Events)
     }
 
     /// Takes note that the sender of a way was told to have begun again, and tells if there is no room for the way.
@@ -125,18 +125,18 @@ impl Figures {
             .came(way, DiscoveryChange::BeganAgain, Full::Discovery)
     }
 
-    /// The figures of methods, by rising route.
-    pub fn methods(&self) -> btree_map::Iter<'_, Route, MethodFigures>
+    /// The figures of methods, by rising flow.
+    pub fn methods(&self) -> btree_map::Iter<'_, Flow, MethodFigures>
         ensures rest { result ≡ finite.entries self.now.methods.values }
-        ensures runs { ShowsInOrder (deref_pair {K = Route} {X = MethodFigures}) }
+        ensures runs { ShowsInOrder (deref_pair {K = Flow} {X = MethodFigures}) }
     {
         self.methods.iter()
     }
 
-    /// The figures of events, by rising route.
-    pub fn events(&self) -> btree_map::Iter<'_, Route, EventFigures>
+    /// The figures of events, by rising flow.
+    pub fn events(&self) -> btree_map::Iter<'_, Flow, EventFigures>
         ensures rest { result ≡ finite.entries self.now.events.values }
-        ensures runs { ShowsInOrder (deref_pair {K = Route} {X = EventFigures}) }
+        ensures runs { ShowsInOrder (deref_pair {K = Flow} {X = EventFigures}) }
     {
         self.events.iter()
     }

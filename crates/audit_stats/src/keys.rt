@@ -1,13 +1,13 @@
 //! What tells figures apart.
-ghost use Rattle.audit_stats.specs.KeyOrder.{exact_calls, exact_routes, exact_ways};
+ghost use Rattle.audit_stats.specs.KeyOrder.{exact_calls, exact_flows, exact_ways};
 
 use someip_tables::Key;
 use std::net::SocketAddrV4;
 
-/// The route of calls or events: by rising service, then method or event, then the endpoint that calls or sends,
+/// The flow of calls or events: by rising service, then method or event, then the endpoint that calls or sends,
 /// and then the one that is called or receives.
 #[derive(Clone, Copy, Debug, PartialEq, Eq, PartialOrd, Ord)]
-pub struct Route {
+pub struct Flow {
     /// Service ID.
     pub service: u16,
     /// Method ID or Event ID.
@@ -18,8 +18,8 @@ pub struct Route {
     pub to: SocketAddrV4,
 }
 
-impl Key for Route {
-    ghost exact = { exact_routes };
+impl Key for Flow {
+    ghost exact = { exact_flows };
 }
 
 /// From which endpoint messages go to which one: by rising endpoint that they come from, and then by the one that
@@ -36,16 +36,16 @@ impl Key for Way {
     ghost exact = { exact_ways };
 }
 
-/// A call that an answer is for: its route, and its Request ID (SOME/IP Protocol, "Request ID"). Calls are ordered
+/// A call that an answer is for: its flow, and its Request ID (SOME/IP Protocol, "Request ID"). Calls are ordered
 /// by these, part by part.
 #[derive(Clone, Copy, Debug, PartialEq, Eq, PartialOrd, Ord)]
-pub struct Call {
+pub(crate) struct Call {
     /// The method, who calls it, and where.
-    pub route: Route,
+    pub(crate) flow: Flow,
     /// Client ID.
-    pub client: u16,
+    pub(crate) client: u16,
     /// Session ID.
-    pub session: u16,
+    pub(crate) session: u16,
 }
 
 impl Key for Call {

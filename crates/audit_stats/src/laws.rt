@@ -9,10 +9,10 @@ ghost use Rattle.audit_stats.specs.declared.events.EventFigures.{EventFigures};
 ghost use Rattle.audit_stats.specs.declared.full.FigureLimits.{FigureLimits};
 ghost use Rattle.audit_stats.specs.declared.full.Full.{Full};
 ghost use Rattle.audit_stats.specs.declared.keys.Call.{Call};
-ghost use Rattle.audit_stats.specs.declared.keys.Route.{Route};
+ghost use Rattle.audit_stats.specs.declared.keys.Flow.{Flow};
 ghost use Rattle.audit_stats.specs.declared.keys.Way.{Way};
 ghost use Rattle.audit_stats.specs.declared.methods.MethodFigures.{MethodFigures};
-ghost use Rattle.audit_stats.specs.declared.sight.Part.{Part};
+ghost use Rattle.audit_stats.specs.declared.sight.Load.{Load};
 ghost use Rattle.audit_stats.specs.declared.sight.Sight.TheVariants.{Answered, Called, Event};
 ghost use Rattle.audit_stats.specs.Examples.{answers, asks, event, first, last, method, sends, two_calls};
 ghost use Rattle.audit_stats.specs.Histories.{AreCounted, cycles_of, discovery_figures, event_figures, how_often, is_message, is_request, latencies_of, method_figures};
@@ -75,21 +75,21 @@ pub fn ranks_by_example()
 
 /// The figures of a method have just how many calls, answers and errors came, also where other methods had no room.
 pub fn calls_and_answers_are_counted()
-    ensures { (limits : FigureLimits) (facts : List Fact) (route : Route) (figures : MethodFigures)
-        → finite.get (stats_of limits facts).methods.values route ≡ Some figures
-        → AreCounted route facts figures }
+    ensures { (limits : FigureLimits) (facts : List Fact) (flow : Flow) (figures : MethodFigures)
+        → finite.get (stats_of limits facts).methods.values flow ≡ Some figures
+        → AreCounted flow facts figures }
 {}
 
 /// The figures of an event are those of its history, also where other events had no room. Of an event without figures
 /// there is nothing to count, if there was always room.
 pub fn events_are_counted()
-    ensures held { (limits : FigureLimits) (facts : List Fact) (route : Route) (figures : EventFigures)
-        → finite.get (stats_of limits facts).events.values route ≡ Some figures
-        → figures ≡ event_figures route facts }
-    ensures others { (limits : FigureLimits) (facts : List Fact) (route : Route)
+    ensures held { (limits : FigureLimits) (facts : List Fact) (flow : Flow) (figures : EventFigures)
+        → finite.get (stats_of limits facts).events.values flow ≡ Some figures
+        → figures ≡ event_figures flow facts }
+    ensures others { (limits : FigureLimits) (facts : List Fact) (flow : Flow)
         → (stats_of limits facts).events.told_full ≡ false
-        → finite.get (stats_of limits facts).events.values route ≡ None
-        → event_figures route facts ≡ no_events }
+        → finite.get (stats_of limits facts).events.values flow ≡ None
+        → event_figures flow facts ≡ no_events }
 {}
 
 /// The figures of a way of Service Discovery are those of its history, also where other ways had no room. Of a way
@@ -107,25 +107,25 @@ pub fn discovery_is_counted()
 /// The figures of a method are those of its history, as long as there was room for each call that waits, also where
 /// other methods had no room. Of a method without figures there is nothing to count, if there was always room.
 pub fn methods_are_counted()
-    ensures held { (limits : FigureLimits) (facts : List Fact) (route : Route) (figures : MethodFigures)
+    ensures held { (limits : FigureLimits) (facts : List Fact) (flow : Flow) (figures : MethodFigures)
         → (stats_of limits facts).waiting.told_full ≡ false
-        → finite.get (stats_of limits facts).methods.values route ≡ Some figures
-        → figures ≡ method_figures route facts }
-    ensures others { (limits : FigureLimits) (facts : List Fact) (route : Route)
+        → finite.get (stats_of limits facts).methods.values flow ≡ Some figures
+        → figures ≡ method_figures flow facts }
+    ensures others { (limits : FigureLimits) (facts : List Fact) (flow : Flow)
         → (stats_of limits facts).methods.told_full ≡ false → (stats_of limits facts).waiting.told_full ≡ false
-        → finite.get (stats_of limits facts).methods.values route ≡ None
-        → method_figures route facts ≡ no_calls }
+        → finite.get (stats_of limits facts).methods.values flow ≡ None
+        → method_figures flow facts ≡ no_calls }
 {}
 
-/// A message on a route without room changes nothing, but that it is noted that there is none; nor does one of Service
+/// A message on a flow without room changes nothing, but that it is noted that there is none; nor does one of Service
 /// Discovery on a way without room.
 pub fn what_has_no_room_changes_nothing_else()
-    ensures calls { (now : ℕ) (call : Call) (asks : Bool) (s : Stats) → has_room call.route s.methods ≡ false
+    ensures calls { (now : ℕ) (call : Call) (asks : Bool) (s : Stats) → has_room call.flow s.methods ≡ false
         → after_sight now (Called call asks) s ≡ record s { methods = full_told s.methods } }
-    ensures answers { (now : ℕ) (call : Call) (fails : Bool) (s : Stats) → has_room call.route s.methods ≡ false
+    ensures answers { (now : ℕ) (call : Call) (fails : Bool) (s : Stats) → has_room call.flow s.methods ≡ false
         → after_sight now (Answered call fails) s ≡ record s { methods = full_told s.methods } }
-    ensures events { (now : ℕ) (route : Route) (part : Part) (s : Stats) → has_room route s.events ≡ false
-        → after_sight now (Event route part) s ≡ record s { events = full_told s.events } }
+    ensures events { (now : ℕ) (flow : Flow) (load : Load) (s : Stats) → has_room flow s.events ≡ false
+        → after_sight now (Event flow load) s ≡ record s { events = full_told s.events } }
     ensures discovery { (way : Way) (s : Stats) → has_room way s.discovery ≡ false
         → after_fact (Discovered way) s ≡ record s { discovery = full_told s.discovery } }
 {}
@@ -171,12 +171,12 @@ pub fn events_by_example()
     ensures short { event_figures event (sends 100 types.TpNotification (0 ∷ 0 ∷ 0 ∷ []) ∷ []) ≡ no_events }
     ensures cycles { cycles_of event (sends 350 types.Notification [] ∷ sends 300 types.Notification [] ∷ sends 100 types.Notification [] ∷ []) ≡ 50 ∷ 200 ∷ [] }
     ensures gaps { (event_figures event (Lost event 3 ∷ Lost event 4 ∷ [])).gaps ≡ 7 }
-    // What goes from the client to the server is another route.
+    // What goes from the client to the server is another flow.
     ensures another { event_figures event (asks 100 7 types.Notification [] ∷ []) ≡ no_events }
 {}
 
 /// No more answers of a method have a latency than calls wanted one: so those that are left are unanswered.
 pub fn no_more_are_answered_than_asked()
-    ensures { (route : Route) (facts : List Fact)
-        → length (latencies_of route facts) ≤ how_often (is_message (is_request route)) facts }
+    ensures { (flow : Flow) (facts : List Fact)
+        → length (latencies_of flow facts) ≤ how_often (is_message (is_request flow)) facts }
 {}

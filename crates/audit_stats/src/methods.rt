@@ -8,7 +8,7 @@ use std::alloc::{AllocError, Global};
 
 /// What a message is to the figures of its method.
 #[derive(Clone, Copy)]
-pub enum CallChange {
+pub(crate) enum CallChange {
     /// A call came; its answer is waited for, or not.
     Called(bool),
     /// An answer came; it is an error, or not. If the call was waited for, it came so many microseconds ago.
@@ -44,6 +44,7 @@ impl Counts<CallChange> for MethodFigures {
     ghost use Rattle.audit_stats.specs.Changes.{after_call, no_calls};
 
     ghost none = { no_calls };
+
     ghost after = { after_call };
 
     fn none(alloc: Global) -> MethodFigures {

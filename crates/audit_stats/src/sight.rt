@@ -2,25 +2,25 @@
 ghost use Rattle.std.specs.Prelude.{◌≡◌, Some};
 ghost use Rattle.someip_wire.specs.Kinds.{without_tp_flag};
 ghost use Rattle.someip_wire.specs.View.{view};
-ghost use Rattle.audit_stats.specs.Sights.{call_of, part_of, route_of, sight_of, sight_of_part, sight_of_whole};
+ghost use Rattle.audit_stats.specs.Sights.{call_of, load_of, flow_of, sight_of, sight_of_load, sight_of_whole};
 
-use crate::keys::{Call, Route};
+use crate::keys::{Call, Flow};
 use someip_reassembly::read_segment;
 use someip_wire::{Header, Message, MessageType, ReturnCode};
 use std::net::SocketAddrV4;
 
-/// What comes of a message: all of it, or a segment.
+/// What a message or a segment brings.
 #[derive(Clone, Copy)]
-pub struct Part {
-    /// How many bytes of its payload.
-    pub bytes: u64,
-    /// Whether the message ends with it.
-    pub ends: bool,
+pub(crate) struct Load {
+    /// How many bytes of payload, without the TP header of a segment.
+    pub(crate) bytes: u64,
+    /// Whether a message ends with it.
+    pub(crate) ends: bool,
 }
 
 /// What a message is to the figures.
 #[derive(Clone, Copy)]
-pub enum Sight {
+pub(crate) enum Sight {
     /// Nothing that counts.
     Nothing,
     /// A call, and whether it wants an answer.
@@ -28,31 +28,31 @@ pub enum Sight {
     /// An answer to a call, and whether it is an error.
     Answered(Call, bool),
     /// An event or a segment of one.
-    Event(Route, Part),
+    Event(Flow, Load),
 }
 
 /// What a message from one endpoint to another is.
 pub(crate) fn sight_of(from: SocketAddrV4, to: SocketAddrV4, message: &Message<'_>) -> Sight
     ensures { result ≡ sight_of from to (view message.now) }
 {
-    match part_of(message) {
-        Some(part) => sight_of_part(from, to, &message.header, part),
+    match load_of(message) {
+        Some(load) => sight_of_load(from, to, &message.header, load),
         None => Sight::Nothing,
     }
 }
 
-/// What comes of a message, if it is no segment without room for a TP header.
-fn part_of(message: &Message<'_>) -> Option<Part>
-    ensures { result ≡ part_of (view message.now) }
+/// What a message brings, if it is no segment without room for a TP header.
+fn load_of(message: &Message<'_>) -> Option<Load>
+    ensures { result ≡ load_of (view message.now) }
 {
     if !message.header.kind.has_tp_flag() {
-        return Some(Part {
+        return Some(Load {
             bytes: message.payload.len() as u64,
             ends: true,
         });
     }
     match read_segment(message.payload) {
-        Ok((_, more, slice)) => Some(Part {
+        Ok((_, more, slice)) => Some(Load {
             bytes: slice.len() as u64,
             ends: !more,
         }),
@@ -60,27 +60,22 @@ fn part_of(message: &Message<'_>) -> Option<Part>
     }
 }
 
-/// What a message is, of which this comes.
-fn sight_of_part(from: SocketAddrV4, to: SocketAddrV4, header: &Header, part: Part) -> Sight
-    ensures { result ≡ sight_of_part from to header.now (without_tp_flag header.now.kind) (Some part) }
+/// What a message is that brings so much.
+fn sight_of_load(from: SocketAddrV4, to: SocketAddrV4, header: &Header, load: Load) -> Sight
+    ensures { result ≡ sight_of_load from to header.now (without_tp_flag header.now.kind) (Some load) }
 {
     let kind = header.kind.without_tp_flag();
     if matches!(kind, MessageType::Notification) {
-        return Sight::Event(route_of(from, to, header), part);
+        return Sight::Event(flow_of(from, to, header), load);
     }
-    if !part.ends {
+    if !load.ends {
         return Sight::Nothing;
     }
     sight_of_whole(from, to, header, kind)
 }
 
 /// What a whole message of this type is.
-fn sight_of_whole(
-    from: SocketAddrV4,
-    to: SocketAddrV4,
-    header: &Header,
-    kind: MessageType,
-) -> Sight
+fn sight_of_whole(from: SocketAddrV4, to: SocketAddrV4, header: &Header, kind: MessageType) -> Sight
     ensures { result ≡ sight_of_whole from to header.now kind }
 {
     match kind {
@@ -94,11 +89,11 @@ fn sight_of_whole(
     }
 }
 
-/// The route of a header, from one endpoint to another.
-fn route_of(from: SocketAddrV4, to: SocketAddrV4, header: &Header) -> Route
-    ensures { result ≡ route_of from to header.now }
+/// The flow of a header, from one endpoint to another.
+fn flow_of(from: SocketAddrV4, to: SocketAddrV4, header: &Header) -> Flow
+    ensures { result ≡ flow_of from to header.now }
 {
-    Route {
+    Flow {
         service: header.service,
         method: header.method,
         from,
@@ -111,7 +106,7 @@ fn call_of(from: SocketAddrV4, to: SocketAddrV4, header: &Header) -> Call
     ensures { result ≡ call_of from to header.now }
 {
     Call {
-        route: route_of(from, to, header),
+        flow: flow_of(from, to, header),
         client: header.client,
         session: header.session,
     }
