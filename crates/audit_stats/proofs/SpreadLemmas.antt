@@ -135,7 +135,7 @@ bucket_is low (e ∷ es) rises rank past within = cases (nat_cmp e.0 low) refl (
 
 -- ---- of the values of a list
 
-count_is : (values : List ℕ) → length values < 2 ^ 64 → (spread_of values).count ≡ length values
+pub count_is : (values : List ℕ) → length values < 2 ^ 64 → (spread_of values).count ≡ length values
 count_is [] few = refl
 count_is (value ∷ values) few = let rest : (spread_of values).count ≡ length values = count_is values (omega (arith, few)) in omega (arith, rest, few)
 

@@ -1,7 +1,7 @@
 //! How much may be kept, and that there is no room for more.
 
 /// How much figures may keep.
-#[derive(Clone, Copy, Debug, PartialEq, Eq)]
+#[derive(Clone, Copy)]
 pub struct FigureLimits {
     /// Of how many methods, of how many events, and of how many ways of Service Discovery.
     pub keys: usize,

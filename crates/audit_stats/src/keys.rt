@@ -38,7 +38,7 @@ impl Key for Way {
 
 /// A call that an answer is for: its flow, and its Request ID (SOME/IP Protocol, "Request ID"). Calls are ordered
 /// by these, part by part.
-#[derive(Clone, Copy, Debug, PartialEq, Eq, PartialOrd, Ord)]
+#[derive(Clone, Copy, PartialEq, Eq, PartialOrd, Ord)]
 pub(crate) struct Call {
     /// The method, who calls it, and where.
     pub(crate) flow: Flow,

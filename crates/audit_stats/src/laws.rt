@@ -36,9 +36,11 @@ pub fn ranks_are_places()
         → IsOfRank rank other values → value ≡ other }
 {}
 
-/// The least value and the greatest are exact: they are those of the first rank and of the last.
+/// The least value and the greatest are exact: they are those of the first rank and of the last. So is the count of fewer
+/// than 2^64 values.
 pub fn extremes_are_exact()
-    ensures { (values : List ℕ) → AreBelow (2 ^ 64) values → 0 < length values
+    ensures count { (values : List ℕ) → length values < 2 ^ 64 → (spread_of values).count ≡ length values }
+    ensures ranks { (values : List ℕ) → AreBelow (2 ^ 64) values → 0 < length values
         → IsOfRank 1 (spread_of values).least values
         × IsOfRank (length values) (spread_of values).greatest values }
 {}
