@@ -1,5 +1,5 @@
 -- What is counted of a method, of an event and of a way.
-use Rattle.std.specs.Prelude.{ℕ, ◌-◌, Bool, true, false, Option, None, Some, if◌then◌else◌, refl}
+use Rattle.std.specs.Prelude.{ℕ, ◌-◌, ◌&&◌, Bool, true, false, Option, None, Some, if◌then◌else◌, refl}
 use Rattle.std.specs.Coded.{Coded, code_by, coded×, coded_ℕ, coded_option}
 use Rattle.audit_stats.specs.declared.discovery.DiscoveryChange.{DiscoveryChange}
 use Rattle.audit_stats.specs.declared.discovery.DiscoveryChange.TheVariants as of_discovery
@@ -10,7 +10,7 @@ use Rattle.audit_stats.specs.declared.events.EventFigures.{EventFigures}
 use Rattle.audit_stats.specs.declared.methods.CallChange.{CallChange}
 use Rattle.audit_stats.specs.declared.methods.CallChange.TheVariants as of_call
 use Rattle.audit_stats.specs.declared.methods.MethodFigures.{MethodFigures}
-use Rattle.audit_stats.specs.Spreads.{Values, coded_values, no_values, raised, with_value}
+use Rattle.audit_stats.specs.Spreads.{Values, coded_values, is_first_in_bucket, no_values, raised, with_value}
 
 -- one where something holds
 abbrev pub number_if : Bool → ℕ
@@ -27,6 +27,11 @@ abbrev pub with_some : Option ℕ → Values → Values
 with_some None s = s
 with_some (Some value) s = with_value value s
 
+-- it takes memory, if one comes that is the first in its bucket
+abbrev pub some_takes : Option ℕ → Values → Bool
+some_takes None s = false
+some_takes (Some value) s = is_first_in_bucket value s
+
 -- ---- methods
 
 abbrev pub no_calls : MethodFigures
@@ -36,6 +41,10 @@ abbrev pub after_call : CallChange → MethodFigures → MethodFigures
 after_call (of_call.Called waits) f = record f { calls = raised f.calls 1; waited = raised f.waited (number_if waits) }
 after_call (of_call.Answered fails latency) f =
     record f { answers = raised f.answers 1; errors = raised f.errors (number_if fails); latency = with_some latency f.latency }
+
+abbrev pub call_takes : CallChange → MethodFigures → Bool
+call_takes (of_call.Called waits) f = false
+call_takes (of_call.Answered fails latency) f = some_takes latency f.latency
 
 -- the calls that were waited for, and have no answer
 abbrev pub unanswered_of : MethodFigures → ℕ
@@ -52,6 +61,10 @@ after_event (of_event.Came at load) f =
     else record f { bytes = raised f.bytes load.bytes }
 after_event (of_event.Lost number) f = record f { gaps = raised f.gaps number }
 
+abbrev pub event_takes : EventChange → EventFigures → Bool
+event_takes (of_event.Came at load) f = load.ends && some_takes (time_since at f.last) f.cycle
+event_takes (of_event.Lost number) f = false
+
 -- ---- Service Discovery
 
 abbrev pub no_discovery : DiscoveryFigures
@@ -60,6 +73,9 @@ no_discovery = record { messages = 0; reboots = 0 }
 abbrev pub after_discovery : DiscoveryChange → DiscoveryFigures → DiscoveryFigures
 after_discovery of_discovery.Came f = record f { messages = raised f.messages 1 }
 after_discovery of_discovery.BeganAgain f = record f { reboots = raised f.reboots 1 }
+
+abbrev pub discovery_takes : DiscoveryChange → DiscoveryFigures → Bool
+discovery_takes change f = false
 
 -- ---- codes, by which a proof tells values apart
 

@@ -1,6 +1,7 @@
 -- How values spread: how many they are, the least and the greatest, and how many lie in each bucket.
-use Rattle.std.specs.Prelude.{ℕ, zero, suc, ◌+◌, ◌-◌, ◌*◌, ◌/◌, ◌^◌, ◌==◌, min, max, nat_le, nat_lt, if◌then◌else◌, List, [], ◌∷◌, Option, None, Some, refl}
+use Rattle.std.specs.Prelude.{Bool, ℕ, zero, suc, ◌+◌, ◌-◌, ◌*◌, ◌/◌, ◌^◌, ◌==◌, min, max, nat_le, nat_lt, if◌then◌else◌, List, [], ◌∷◌, Option, None, Some, refl}
 use Rattle.std.specs.Coded.{Coded, code_by, coded×, coded_ℕ}
+use Rattle.std.specs.Option.{is_none}
 use Rattle.std.specs.FinMap as finite
 use Rattle.std.specs.FinMap.{FinMap}
 use Rattle.std.specs.Ordering.{nat_cmp}
@@ -52,6 +53,10 @@ with_value value s = record {
   greatest = max s.greatest value;
   buckets = finite.insert s.buckets (low_end value) (raised (number_of (finite.get s.buckets (low_end value))) 1);
 }
+
+-- a value takes memory where its bucket has none yet
+abbrev pub is_first_in_bucket : ℕ → Values → Bool
+is_first_in_bucket value s = is_none (finite.get s.buckets (low_end value))
 
 -- the spread of the values of a list
 abbrev pub spread_of : List ℕ → Values

@@ -1,11 +1,12 @@
 -- The figures of a recording, and what each thing that is seen makes of them.
-use Rattle.std.specs.Prelude.{ℕ, Bool, ◌&&◌, List, [], ◌∷◌, Option, None, if◌then◌else◌, refl}
+use Rattle.std.specs.Prelude.{ℕ, Bool, false, ◌&&◌, ◌||◌, List, [], ◌∷◌, Option, None, if◌then◌else◌, refl}
+use Rattle.std.specs.Option.{is_none}
 use Rattle.std.specs.Coded.{Coded, code_by, coded×, coded_ℕ}
 use Rattle.std.specs.FinMap as finite
 use Rattle.std.specs.declared.net.socket_addr.SocketAddrV4.{SocketAddrV4}
 use Rattle.someip_tables.specs.hashed.Rooms.{told_when_full}
 use Rattle.someip_wire.specs.Spelling.{MessageValue}
-use Rattle.audit_stats.specs.Changes.{after_call, after_discovery, after_event, coded_discovery_figures, coded_event_figures, coded_method_figures, no_calls, no_discovery, no_events, time_since}
+use Rattle.audit_stats.specs.Changes.{after_call, after_discovery, after_event, call_takes, coded_discovery_figures, coded_event_figures, coded_method_figures, discovery_takes, event_takes, no_calls, no_discovery, no_events, time_since}
 use Rattle.audit_stats.specs.declared.discovery.DiscoveryChange.TheVariants as of_discovery
 use Rattle.audit_stats.specs.declared.discovery.DiscoveryFigures.{DiscoveryFigures}
 use Rattle.audit_stats.specs.declared.events.EventChange.TheVariants as of_event
@@ -22,7 +23,7 @@ use Rattle.audit_stats.specs.declared.sight.Sight.{Sight}
 use Rattle.audit_stats.specs.declared.sight.Sight.TheVariants as sights
 use Rattle.audit_stats.specs.Keys.{call_cmp, coded_call, coded_flow, coded_way, flow_cmp, way_cmp}
 use Rattle.audit_stats.specs.Sights.{sight_of}
-use Rattle.audit_stats.specs.Tables.{Held, after_change, coded_held, counted, empty_held, full_told, has_room, told_of, with_held, without_held}
+use Rattle.audit_stats.specs.Tables.{Held, after_change, after_takes, coded_held, counted, empty_held, full_told, has_room, told_of, with_held, without_held}
 
 -- the figures of methods, and since when calls wait for their answers
 abbrev pub Methods : Type 0
@@ -61,11 +62,19 @@ abbrev pub told_of_called : Call → Bool → Methods → Waiting → Option Ful
 told_of_called call asks m w =
     if has_room call.flow m then (if asks then told_of full.Calls call w else None) else told_when_full full.Methods m.told_full
 
+-- whether it takes memory: for its method, or for a call more that waits
+abbrev pub called_takes : Call → Bool → Methods → Waiting → Bool
+called_takes call asks m w = has_room call.flow m && (is_none (finite.get m.values call.flow) || (asks && has_room call w && is_none (finite.get w.values call)))
+
 -- ---- answers
 
 -- an answer came: it is counted, with the time since its call, if that waits
 abbrev pub methods_answered : ℕ → Call → Bool → Methods → Waiting → Methods
 methods_answered now call fails m w = after_change no_calls after_call call.flow (of_call.Answered fails (time_since now (finite.get w.values call))) m
+
+-- whether it takes memory
+abbrev pub answered_takes : ℕ → Call → Bool → Methods → Waiting → Bool
+answered_takes now call fails m w = after_takes call_takes call.flow (of_call.Answered fails (time_since now (finite.get w.values call))) m
 
 -- its call waits no more
 abbrev pub waiting_answered : Call → Methods → Waiting → Waiting
@@ -107,6 +116,19 @@ told_of_fact (Came now from to message) s = told_of_sight (sight_of from to mess
 told_of_fact (Discovered way) s = told_of full.Discovery way s.discovery
 told_of_fact (Lost flow number) s = told_of full.Events flow s.events
 told_of_fact (BeganAgain way) s = told_of full.Discovery way s.discovery
+
+-- whether it takes memory: for a new key, for a call more that waits, or for a new bucket
+abbrev pub sight_takes : ℕ → Sight → Stats → Bool
+sight_takes now sights.Nothing s = false
+sight_takes now (sights.Called call asks) s = called_takes call asks s.methods s.waiting
+sight_takes now (sights.Answered call fails) s = answered_takes now call fails s.methods s.waiting
+sight_takes now (sights.Event flow load) s = after_takes event_takes flow (of_event.Came now load) s.events
+
+abbrev pub fact_takes : Fact → Stats → Bool
+fact_takes (Came now from to message) s = sight_takes now (sight_of from to message) s
+fact_takes (Discovered way) s = after_takes discovery_takes way of_discovery.Came s.discovery
+fact_takes (Lost flow number) s = after_takes event_takes flow (of_event.Lost number) s.events
+fact_takes (BeganAgain way) s = after_takes discovery_takes way of_discovery.BeganAgain s.discovery
 
 -- the figures of a history, which has the newest first
 abbrev pub stats_of : FigureLimits → List Fact → Stats

@@ -1,5 +1,5 @@
 -- Tables with a limit, which tell once that they are full.
-use Rattle.std.specs.Prelude.{ℕ, Bool, true, false, List, Option, None, if◌then◌else◌, refl}
+use Rattle.std.specs.Prelude.{ℕ, Bool, true, false, ◌&&◌, List, Option, None, Some, if◌then◌else◌, refl}
 use Rattle.std.specs.Option.{unwrap_or}
 use Rattle.std.specs.declared.cmp.Ordering.{Ordering}
 use Rattle.std.specs.Coded.{Coded, code_by, coded×, coded_ℕ, coded_bool}
@@ -46,6 +46,11 @@ without_held key t = record t { values = finite.remove t.values key }
 abbrev pub counted : {K V C : Type 0} {R : K → K → Ordering} → V → (C → V → V) → K → C → Held R V → Held R V
 counted none after key change t = with_held key (after change (unwrap_or (finite.get t.values key) none)) t
 
+-- whether it takes memory: the key is new, or what is held under it takes some
+abbrev pub change_takes : {V C : Type 0} → (C → V → Bool) → C → Option V → Bool
+change_takes takes change None = true
+change_takes takes change (Some value) = takes change value
+
 -- what is told of a change under a key: that there is no room for it
 abbrev pub told_of : {K V F : Type 0} {R : K → K → Ordering} → F → K → Held R V → Option F
 told_of full key t = if has_room key t then None else told_when_full full t.told_full
@@ -53,6 +58,10 @@ told_of full key t = if has_room key t then None else told_when_full full t.told
 -- the table once a change came: it is counted where there is room for its key
 abbrev pub after_change : {K V C : Type 0} {R : K → K → Ordering} → V → (C → V → V) → K → C → Held R V → Held R V
 after_change none after key change t = if has_room key t then counted none after key change t else full_told t
+
+-- whether that takes memory
+abbrev pub after_takes : {K V C : Type 0} {R : K → K → Ordering} → (C → V → Bool) → K → C → Held R V → Bool
+after_takes takes key change t = has_room key t && change_takes takes change (finite.get t.values key)
 
 -- a code, by which a proof tells values apart
 abbrev pub coded_held : {K V : Type 0} {R : K → K → Ordering} → Coded K → Coded V → Coded (Held R V)

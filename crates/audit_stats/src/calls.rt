@@ -1,11 +1,12 @@
 //! Calls and answers over the figures of their methods.
-ghost use Rattle.std.specs.Prelude.{◌≡◌, IfOk, OnErr, OnOk, true, ℕ};
+ghost use Rattle.std.specs.Prelude.{◌≡◌, ◌||◌, IfOk, OnErr, OnOk, true, ℕ};
 ghost use Rattle.std.specs.FinMap as finite;
+ghost use Rattle.std.specs.Option.{is_none};
 ghost use Rattle.audit_stats.specs.Changes.{after_call, no_calls};
 ghost use Rattle.audit_stats.specs.declared.full.Full.TheVariants as full;
 ghost use Rattle.audit_stats.specs.declared.methods.CallChange.TheVariants as of_call;
 ghost use Rattle.audit_stats.specs.Keys.{call_cmp, flow_cmp};
-ghost use Rattle.audit_stats.specs.Stats.{Waiting, methods_answered, methods_called, told_of_called, waiting_answered, waiting_called};
+ghost use Rattle.audit_stats.specs.Stats.{Waiting, answered_takes, called_takes, methods_answered, methods_called, told_of_called, waiting_answered, waiting_called};
 ghost use Rattle.audit_stats.specs.Tables.{counted, held_by, told_of, with_held};
 
 use crate::events::time_since;
@@ -37,6 +38,8 @@ pub(crate) fn called(
         ≡ waiting_called now call asks (held_by flow_cmp methods.old) (held_by call_cmp waiting.old)) }
     ensures err { OnErr result (held_by flow_cmp methods.new ≡ held_by flow_cmp methods.old) }
     ensures err_waiting { OnErr result (held_by call_cmp waiting.new ≡ held_by call_cmp waiting.old) }
+    ensures grows { OnErr result
+        (called_takes call asks (held_by flow_cmp methods.old) (held_by call_cmp waiting.old) ≡ true) }
 {
     if !methods.has_room(&call.flow) {
         return Ok(methods.tell_full(Full::Methods));
@@ -65,6 +68,8 @@ fn open(
     ensures waiting { OnOk result (held_by call_cmp waiting.new ≡ with_held call now (held_by call_cmp waiting.old)) }
     ensures err { OnErr result (held_by flow_cmp methods.new ≡ held_by flow_cmp methods.old) }
     ensures err_waiting { OnErr result (held_by call_cmp waiting.new ≡ held_by call_cmp waiting.old) }
+    ensures grows { OnErr result ((is_none (finite.get (held_by flow_cmp methods.old).values call.flow)
+        || is_none (finite.get (held_by call_cmp waiting.old).values call)) ≡ true) }
 {
     let before = waiting.get(call);
     waiting.put(call, now)?;
@@ -105,6 +110,8 @@ pub(crate) fn answered(
         ≡ waiting_answered call (held_by flow_cmp methods.old) (held_by call_cmp waiting.old)) }
     ensures err { OnErr result (held_by flow_cmp methods.new ≡ held_by flow_cmp methods.old) }
     ensures err_waiting { OnErr result (held_by call_cmp waiting.new ≡ held_by call_cmp waiting.old) }
+    ensures grows { OnErr result
+        (answered_takes now call fails (held_by flow_cmp methods.old) (held_by call_cmp waiting.old) ≡ true) }
 {
     if !methods.has_room(&call.flow) {
         return Ok(methods.tell_full(Full::Methods));

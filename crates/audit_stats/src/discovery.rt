@@ -21,11 +21,13 @@ pub struct DiscoveryFigures {
 }
 
 impl Counts<DiscoveryChange> for DiscoveryFigures {
-    ghost use Rattle.audit_stats.specs.Changes.{after_discovery, no_discovery};
+    ghost use Rattle.audit_stats.specs.Changes.{after_discovery, discovery_takes, no_discovery};
 
     ghost none = { no_discovery };
 
     ghost after = { after_discovery };
+
+    ghost takes = { discovery_takes };
 
     fn none(_alloc: Global) -> DiscoveryFigures {
         DiscoveryFigures {

@@ -33,11 +33,13 @@ pub struct EventFigures {
 }
 
 impl Counts<EventChange> for EventFigures {
-    ghost use Rattle.audit_stats.specs.Changes.{after_event, no_events};
+    ghost use Rattle.audit_stats.specs.Changes.{after_event, event_takes, no_events};
 
     ghost none = { no_events };
 
     ghost after = { after_event };
+
+    ghost takes = { event_takes };
 
     fn none(alloc: Global) -> EventFigures {
         EventFigures {

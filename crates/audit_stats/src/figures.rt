@@ -1,5 +1,5 @@
 //! The figures of a recording.
-ghost use Rattle.std.specs.Prelude.{◌≡◌, IfOk, OnErr, OnOk};
+ghost use Rattle.std.specs.Prelude.{◌≡◌, IfOk, OnErr, OnOk, true};
 ghost use Rattle.std.specs.FinMap as finite;
 ghost use Rattle.std.specs.Map.Iter.{ShowsInOrder, deref_pair};
 ghost use Rattle.someip_wire.specs.View.{view};
@@ -8,7 +8,7 @@ ghost use Rattle.audit_stats.specs.declared.events.EventFigures.{EventFigures};
 ghost use Rattle.audit_stats.specs.declared.keys.Flow.{Flow};
 ghost use Rattle.audit_stats.specs.declared.keys.Way.{Way};
 ghost use Rattle.audit_stats.specs.declared.methods.MethodFigures.{MethodFigures};
-ghost use Rattle.audit_stats.specs.Stats.{BeganAgain, Came, Discovered, Lost, after_fact, no_stats, told_of_fact};
+ghost use Rattle.audit_stats.specs.Stats.{BeganAgain, Came, Discovered, Lost, after_fact, fact_takes, no_stats, told_of_fact};
 
 use crate::calls::{MethodTable, WaitTable, answered, called};
 use crate::discovery::{DiscoveryChange, DiscoveryFigures};
@@ -63,9 +63,10 @@ impl Figures {
         }
     }
 
-    /// Takes note of a message that is none of Service Discovery, at a moment in microseconds, and tells if there is
-    /// no room for it. A segment is a message here. What is refused for want of memory leaves the figures as they
-    /// were.
+    /// Takes note of a message that is none of Service Discovery, or of a segment, at a moment in microseconds, and
+    /// tells if there is no room for it. Moments never fall; after one that does, times count as 0. Memory is taken
+    /// for a new key, for a call more that waits, and for a new bucket alone. What is refused for want of it leaves
+    /// the figures as they were.
     pub fn saw(
         &mut self,
         now_us: u64,
@@ -76,6 +77,7 @@ impl Figures {
         ensures told { IfOk result (λ told. told ≡ told_of_fact (Came now_us from to (view message.now)) self.old) }
         ensures after { OnOk result (self.new ≡ after_fact (Came now_us from to (view message.now)) self.old) }
         ensures err { OnErr result (self.new ≡ self.old) }
+        ensures grows { OnErr result (fact_takes (Came now_us from to (view message.now)) self.old ≡ true) }
     {
         match sight_of(from, to, message) {
             Sight::Nothing => Ok(None),
@@ -98,6 +100,7 @@ impl Figures {
         ensures told { IfOk result (λ told. told ≡ told_of_fact (Discovered way) self.old) }
         ensures after { OnOk result (self.new ≡ after_fact (Discovered way) self.old) }
         ensures err { OnErr result (self.new ≡ self.old) }
+        ensures grows { OnErr result (fact_takes (Discovered way) self.old ≡ true) }
     {
         self.discovery
             .came(way, DiscoveryChange::Came, Full::Discovery)
@@ -109,6 +112,7 @@ impl Figures {
         ensures told { IfOk result (λ told. told ≡ told_of_fact (Lost flow number) self.old) }
         ensures after { OnOk result (self.new ≡ after_fact (Lost flow number) self.old) }
         ensures err { OnErr result (self.new ≡ self.old) }
+        ensures grows { OnErr result (fact_takes (Lost flow number) self.old ≡ true) }
     {
         self.events
             .came(flow, EventChange::Lost(number), Full::Events)
@@ -120,6 +124,7 @@ impl Figures {
         ensures told { IfOk result (λ told. told ≡ told_of_fact (BeganAgain way) self.old) }
         ensures after { OnOk result (self.new ≡ after_fact (BeganAgain way) self.old) }
         ensures err { OnErr result (self.new ≡ self.old) }
+        ensures grows { OnErr result (fact_takes (BeganAgain way) self.old ≡ true) }
     {
         self.discovery
             .came(way, DiscoveryChange::BeganAgain, Full::Discovery)

@@ -1,6 +1,6 @@
 //! What is counted of a method.
-ghost use Rattle.std.specs.Prelude.{◌≡◌, ◌≤◌, OnErr, OnOk};
-ghost use Rattle.audit_stats.specs.Changes.{number_if, unanswered_of, with_some};
+ghost use Rattle.std.specs.Prelude.{◌≡◌, ◌≤◌, OnErr, OnOk, true};
+ghost use Rattle.audit_stats.specs.Changes.{number_if, some_takes, unanswered_of, with_some};
 
 use crate::counts::Counts;
 use crate::spread::Spread;
@@ -41,11 +41,13 @@ impl MethodFigures {
 }
 
 impl Counts<CallChange> for MethodFigures {
-    ghost use Rattle.audit_stats.specs.Changes.{after_call, no_calls};
+    ghost use Rattle.audit_stats.specs.Changes.{after_call, call_takes, no_calls};
 
     ghost none = { no_calls };
 
     ghost after = { after_call };
+
+    ghost takes = { call_takes };
 
     fn none(alloc: Global) -> MethodFigures {
         MethodFigures {
@@ -85,6 +87,7 @@ fn number_if(holds: bool) -> u64
 pub(crate) fn add_some(spread: &mut Spread, value: Option<u64>) -> Result<(), AllocError>
     ensures ok { OnOk result (spread.new ≡ with_some value spread.old) }
     ensures err { OnErr result (spread.new ≡ spread.old) }
+    ensures grows { OnErr result (some_takes value spread.old ≡ true) }
 {
     match value {
         Some(value) => spread.add(value),

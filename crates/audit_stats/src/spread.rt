@@ -1,9 +1,9 @@
 //! How values spread.
-ghost use Rattle.std.specs.Prelude.{◌≡◌, ◌≤◌, ◌<◌, ◌^◌, OnErr, OnOk, None, min};
+ghost use Rattle.std.specs.Prelude.{◌≡◌, ◌≤◌, ◌<◌, ◌^◌, OnErr, OnOk, true, min};
 ghost use Rattle.std.specs.FinMap as finite;
 ghost use Rattle.std.specs.Ordering.{nat_cmp};
 ghost use Rattle.someip_tables.specs.Tables.{map_of};
-ghost use Rattle.audit_stats.specs.Spreads.{bucket_at, low_end, no_values, number_of, quantile, rank_of, summary_of, with_value};
+ghost use Rattle.audit_stats.specs.Spreads.{bucket_at, is_first_in_bucket, low_end, no_values, number_of, quantile, rank_of, summary_of, with_value};
 
 use someip_tables::{put_value, value_at};
 use std::alloc::{AllocError, Global};
@@ -73,7 +73,7 @@ impl Spread {
     pub fn add(&mut self, value: u64) -> Result<(), AllocError>
         ensures ok { OnOk result (self.new ≡ with_value value self.old) }
         ensures err { OnErr result (self.new ≡ self.old) }
-        ensures grows { OnErr result (finite.get self.old.buckets (low_end value) ≡ None) }
+        ensures grows { OnErr result (is_first_in_bucket value self.old ≡ true) }
     {
         let bucket = low_end(value);
         let number = number_of(value_at(&self.buckets, bucket));

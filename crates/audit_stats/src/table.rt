@@ -5,7 +5,7 @@ ghost use Rattle.std.specs.Map.Iter.{ShowsInOrder, deref_pair};
 ghost use Rattle.std.specs.Option.{unwrap_or};
 ghost use Rattle.someip_tables.specs.Tables.{map_of};
 ghost use Rattle.someip_tables.specs.hashed.Rooms.{told_when_full};
-ghost use Rattle.audit_stats.specs.Tables.{after_change, counted, empty_held, full_told, has_room, held_by, told_of, with_held, without_held};
+ghost use Rattle.audit_stats.specs.Tables.{after_change, after_takes, change_takes, counted, empty_held, full_told, has_room, held_by, told_of, with_held, without_held};
 
 use crate::counts::Counts;
 use someip_tables::hashed::Room;
@@ -68,6 +68,8 @@ impl<K: Key, V: Drop> Table<K, V> {
         ensures ok { OnOk result (held_by K.cmp self.new
             ≡ counted V.none V.after key change (held_by K.cmp self.old)) }
         ensures err { OnErr result (held_by K.cmp self.new ≡ held_by K.cmp self.old) }
+        ensures grows { OnErr result
+            (change_takes V.takes change (finite.get (held_by K.cmp self.old).values key) ≡ true) }
     {
         count(&mut self.held, self.alloc, key, change)
     }
@@ -86,6 +88,7 @@ impl<K: Key, V: Drop> Table<K, V> {
         ensures after { OnOk result (held_by K.cmp self.new
             ≡ after_change V.none V.after key change (held_by K.cmp self.old)) }
         ensures err { OnErr result (held_by K.cmp self.new ≡ held_by K.cmp self.old) }
+        ensures grows { OnErr result (after_takes V.takes key change (held_by K.cmp self.old) ≡ true) }
     {
         if !self.has_room(&key) {
             return Ok(self.tell_full(full));
@@ -154,6 +157,8 @@ fn count<K: Key, C: Copy, V: Counts<C>>(
     ensures ok { OnOk result (map_of K.cmp held.new.entries ≡ finite.insert (map_of K.cmp held.old.entries) key
         (V.after change (unwrap_or (finite.get (map_of K.cmp held.old.entries) key) V.none))) }
     ensures err { OnErr result (map_of K.cmp held.new.entries ≡ map_of K.cmp held.old.entries) }
+    ensures grows { OnErr result
+        (change_takes V.takes change (finite.get (map_of K.cmp held.old.entries) key) ≡ true) }
 {
     match held.get_mut(&key) {
         Some(value) => value.count(change),

@@ -1,9 +1,10 @@
-use Rattle.std.proofs.Common.{◌≡◌, None, Some, rules, sym, ap, ◌∙◌}
+use Rattle.std.proofs.Common.{refl, ◌≡◌, None, Some, rules, sym, ap, ◌∙◌}
 use Rattle.std.specs.BTreeMap as tree
 use Rattle.std.specs.FinMap as finite
 use Rattle.std.specs.Option.{unwrap_or}
 use Rattle.someip_tables.specs.Tables.{map_of}
 use Rattle.someip_tables.proofs.Trees.{get-map_of, map_of-insert}
+use Rattle.someip_tables.proofs.Outcomes.{on_err}
 use Rattle.audit_stats.proofs.TableLemmas.{insert_same, on_err_from, on_ok_from}
 use Rattle.audit_stats.proofs.table.count.Goals as goal
 
@@ -28,3 +29,13 @@ returns-in-None-clause-ok g c =
     let first : g.V.Counts.after c.args.change g.V.Counts.none ≡ g.V.Counts.after c.args.change (unwrap_or (finite.get (map_of g.K.Ord.cmp c.args.held.now.entries) c.args.key) g.V.Counts.none) = ap (λ o. g.V.Counts.after c.args.change (unwrap_or o g.V.Counts.none)) (sym none) in
     on_ok_from c.begin.result
     (λ is. is ∙ ap (λ (m : tree.BTreeMap _ _). finite.insert (map_of g.K.Ord.cmp m.entries) c.args.key (g.V.Counts.after c.args.change g.V.Counts.none)) same ∙ ap (finite.insert (map_of g.K.Ord.cmp c.args.held.now.entries) c.args.key) first) c.begin.ensures.ok
+
+pub returns-in-Some-clause-grows : goal.returns-in-Some-clause-grows
+returns-in-Some-clause-grows g c =
+    let known : finite.get (map_of g.K.Ord.cmp c.args.held.now.entries) c.args.key ≡ Some c.in-Some.value.now = get-map_of g.met.K.Ord.total c.args.held.now.entries c.args.key ∙ sym c.in-Some.ensures.value in
+    rw known c.count.ensures.grows
+
+pub returns-in-None-clause-grows : goal.returns-in-None-clause-grows
+returns-in-None-clause-grows g c =
+    let none : finite.get (map_of g.K.Ord.cmp c.args.held.now.entries) c.args.key ≡ None = get-map_of g.met.K.Ord.total c.args.held.now.entries c.args.key ∙ sym c.in-None.ensures.value in
+    rw none (on_err c.begin.result refl)
