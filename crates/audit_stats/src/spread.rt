@@ -10,7 +10,7 @@ use std::alloc::{AllocError, Global};
 use std::collections::BTreeMap;
 use std::marker::Model;
 
-/// The greatest value with a bucket of its own; each that is greater counts in the last bucket.
+/// A greater value than this counts as this one, in the last bucket.
 const LAST: u64 = 0xffff_ffff;
 
 /// What is told of the values of a spread, in microseconds.
