@@ -46,6 +46,43 @@ not_less rank a b values one other = cases (nat_lt a b) refl
 pub one_value : (rank a b : ℕ) (values : List ℕ) → IsOfRank rank a values → IsOfRank rank b values → a ≡ b
 one_value rank a b values one other = omega (arith, not_less rank a b values one other, not_less rank b a values other one)
 
+-- ---- each rank has a value
+
+next_below : (value : ℕ) (values : List ℕ) → how_many (λ v. nat_lt v (value + 1)) values ≤ how_many (λ v. nat_le v value) values
+next_below value values = more_pass _ _ values (λ v is. let less : v < value + 1 = ltb-true v (value + 1) is in le-leb v value (omega (arith, less)))
+
+none_below_zero : (values : List ℕ) → how_many (λ v. nat_lt v 0) values ≡ 0
+none_below_zero [] = refl
+none_below_zero (value ∷ values) = none_more (λ v. nat_lt v 0) value values (ltb-false value 0 (omega arith)) ∙ none_below_zero values
+
+-- the first value from one on that at least so many are at most
+first_from : (steps from rank : ℕ) (values : List ℕ) → how_many (λ v. nat_lt v from) values < rank → rank ≤ how_many (λ v. nat_le v (from + steps)) values → (value : ℕ) × IsOfRank rank value values
+first_from zero from rank values below upto = let same : from + zero ≡ from = omega arith in (from, (below, subst (λ n. rank ≤ how_many (λ v. nat_le v n) values) same upto))
+first_from (suc steps) from rank values below upto = cases (nat_le rank (how_many (λ v. nat_le v from) values)) refl (first_from steps (from + 1) rank values)
+  where
+    cases : (t : Bool) → nat_le rank (how_many (λ v. nat_le v from) values) ≡ t
+        → (how_many (λ v. nat_lt v (from + 1)) values < rank → rank ≤ how_many (λ v. nat_le v (from + 1 + steps)) values → (value : ℕ) × IsOfRank rank value values) → (value : ℕ) × IsOfRank rank value values
+    cases true is later = (from, (below, leb-true rank _ is))
+    cases false is later =
+        let few : how_many (λ v. nat_le v from) values < rank = not_above rank _ is in
+        let next : how_many (λ v. nat_lt v (from + 1)) values ≤ how_many (λ v. nat_le v from) values = next_below from values in
+        let same : from + suc steps ≡ from + 1 + steps = omega arith in
+        later (omega (arith, few, next)) (subst (λ n. rank ≤ how_many (λ v. nat_le v n) values) same upto)
+
+all_upto : (bound : ℕ) (values : List ℕ) → AreBelow bound values → length values ≤ how_many (λ v. nat_le v bound) values
+all_upto bound [] below = omega arith
+all_upto bound (value ∷ values) below =
+    let rest : length values ≤ how_many (λ v. nat_le v bound) values = all_upto bound values below.1 in
+    let one : how_many (λ v. nat_le v bound) (value ∷ values) ≡ how_many (λ v. nat_le v bound) values + 1 = one_more (λ v. nat_le v bound) value values (le-leb value bound (let less : value < bound = below.0 in omega (arith, less))) in
+    omega (arith, rest, one)
+
+pub some_value : (bound rank : ℕ) (values : List ℕ) → AreBelow bound values → 0 < rank → rank ≤ length values → (value : ℕ) × IsOfRank rank value values
+some_value bound rank values below from upto =
+    let none : how_many (λ v. nat_lt v 0) values ≡ 0 = none_below_zero values in
+    let all : length values ≤ how_many (λ v. nat_le v bound) values = all_upto bound values below in
+    let same : 0 + bound ≡ bound = omega arith in
+    first_from bound 0 rank values (omega (arith, none, from)) (subst (λ n. rank ≤ how_many (λ v. nat_le v n) values) (sym same) (omega (arith, upto, all)))
+
 -- ---- in a list that rises
 
 rises_at : (bound : ℕ) (values : List ℕ) (place value : ℕ) → Rises bound values → slice_get values place ≡ Some value → bound ≤ value

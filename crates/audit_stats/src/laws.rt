@@ -28,12 +28,15 @@ pub fn told_quantiles_are_near()
         → IsNear (quantile percent (spread_of values)) value }
 {}
 
-/// The value of a rank is the one at that place of a list that rises, and a rank has one value.
+/// The value of a rank is the one at that place of a list that rises. Each rank up to the number of values has a value,
+/// and one alone.
 pub fn ranks_are_places()
     ensures place { (values : List ℕ) (place value : ℕ) → Rises 0 values → slice_get values place ≡ Some value
         → IsOfRank (place + 1) value values }
     ensures one { (rank value other : ℕ) (values : List ℕ) → IsOfRank rank value values
         → IsOfRank rank other values → value ≡ other }
+    ensures some { (bound rank : ℕ) (values : List ℕ) → AreBelow bound values → 0 < rank → rank ≤ length values
+        → (value : ℕ) × IsOfRank rank value values }
 {}
 
 /// The least value and the greatest are exact: they are those of the first rank and of the last. So is the count of fewer
