@@ -1,5 +1,5 @@
 -- A client at 192.168.0.1, a server at 192.168.0.2, and what they send each other.
-use Rattle.std.specs.Prelude.{ℕ, List, [], ◌∷◌}
+use Rattle.std.specs.Prelude.{ℕ, List, [], ◌∷◌, ◌++◌}
 use Rattle.std.specs.declared.net.socket_addr.SocketAddrV4.{SocketAddrV4}
 use Rattle.someip_wire.specs.declared.header.Header.{Header}
 use Rattle.someip_wire.specs.declared.header.MessageType.{MessageType}
@@ -37,9 +37,17 @@ sends now kind payload = Came now (node 2) (node 1) (record { header = header 0x
 abbrev pub two_calls : List Fact
 two_calls = answers 900 7 types.Response 0 ∷ asks 500 7 types.Request [] ∷ asks 100 7 types.Request [] ∷ []
 
+-- a call, and an answer with another session
+abbrev pub one_unasked : List Fact
+one_unasked = answers 900 8 types.Response 0 ∷ asks 500 7 types.Request [] ∷ []
+
 -- TP headers: a first segment, and a last one
 abbrev pub first : List ℕ
 first = 0 ∷ 0 ∷ 0 ∷ 1 ∷ []
 
 abbrev pub last : List ℕ
 last = 0 ∷ 0 ∷ 5 ∷ 0x70 ∷ []
+
+-- an event in two segments of a byte each
+abbrev pub two_segments : List Fact
+two_segments = sends 200 types.TpNotification (last ++ 9 ∷ []) ∷ sends 100 types.TpNotification (first ++ 8 ∷ []) ∷ []

@@ -149,6 +149,7 @@ discovery_figures way facts = record { messages = capped (how_often (is_discover
 
 -- ---- what is counted whether or not calls are waited for
 
+-- the calls, the answers and the errors of a method
 abbrev pub AreCounted : Flow → List Fact → MethodFigures → Type 0
 AreCounted flow facts figures =
     (figures.calls ≡ capped (how_often (is_message (is_call flow)) facts))
