@@ -13,6 +13,8 @@
 #[cfg(test)]
 mod of_audit_sd;
 #[cfg(test)]
+mod of_audit_stats;
+#[cfg(test)]
 mod of_recording;
 #[cfg(test)]
 mod of_sd_core;

@@ -1,0 +1,10 @@
+pub mod BucketLemmas
+pub mod SpreadLemmas
+pub mod RankLemmas
+pub mod TableLemmas
+pub mod TallyLemmas
+pub mod EventLemmas
+pub mod CallLemmas
+pub mod LatencyLemmas
+pub mod FullLemmas
+pub mod AnsweredLemmas

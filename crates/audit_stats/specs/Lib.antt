@@ -1,0 +1,10 @@
+pub mod Spreads
+pub mod Ranks
+pub mod Keys
+pub mod KeyOrder
+pub mod Tables
+pub mod Changes
+pub mod Sights
+pub mod Stats
+pub mod Histories
+pub mod Examples
