@@ -10,6 +10,7 @@ Recordings: what they are; what is expected
   COUNT `rough`: of nodes that offer, stop, move, subscribe, renew, refuse and begin anew; datagrams are lost, repeated,
     swapped or late; what the model tells
   COUNT `drawn`: of drawn datagrams, which need make no sense, with drawn options; what the model tells
+  2 `crowds`: of one offer or subscription more than there is room for; `full NAME` once, and a line for each other
 """
 import argparse
 import collections
@@ -20,11 +21,14 @@ import tempfile
 from pathlib import Path
 
 import intervals
+import crowds
 import draws
 import runs
 import wire
 
 WORLDS = 20
+ROOM = 65536
+CROWDS = {"offers": crowds.offers, "subscriptions": crowds.receivers}
 WHY = ("open", "stopped", "expired", "reboot", "moved", "refused", "offer")
 
 
@@ -54,20 +58,33 @@ class Sweep:
         return random.Random(" ".join(map(str, (self.seed, "services", *words))))
 
     def judge(self, sort, number, data, words):
-        path = self.folder / "recording"
-        path.write_bytes(data)
-        done = subprocess.run([self.program, "services", *words, str(path)], capture_output=True, check=False)
-        got, expected = done.stdout.decode("utf8", "replace"), intervals.told(data, intervals.asked_of(words))
+        (got, status), expected = self.printed(words, data), intervals.told(data, intervals.asked_of(words))
         self.counts[sort] += 1
         self.lines += len(expected.splitlines())
         self.reasons.update(line.rpartition(" ")[2] for line in expected.splitlines())
-        if got != expected or done.returncode:
+        if got != expected or status:
             self.differences += 1
             kept = Path(tempfile.gettempdir()) / f"someipctl-services-{sort}-{number}"
             kept.write_bytes(data)
             pairs = zip(expected.splitlines() + ["-"], got.splitlines() + ["-"])
-            first = next((pair for pair in pairs if pair[0] != pair[1]), ("the same", f"status {done.returncode}"))
+            first = next((pair for pair in pairs if pair[0] != pair[1]), ("the same", f"status {status}"))
             print(f"services: {' '.join([*words, str(kept)])}: expected '{first[0]}', got '{first[1]}'")
+
+    def printed(self, words, data):
+        """What the program prints of a recording, and its exit status."""
+        path = self.folder / "recording"
+        path.write_bytes(data)
+        done = subprocess.run([self.program, "services", *words, str(path)], capture_output=True, check=False)
+        return done.stdout.decode("utf8", "replace"), done.returncode
+
+    def crowds(self):
+        for name, make in CROWDS.items():
+            got, status = self.printed([], wire.pcap(list(make())))
+            lines = got.splitlines()
+            self.counts["crowds"] += 1
+            if lines.count(f"full {name}") != 1 or len(set(lines)) != ROOM + 1 or len(lines) != ROOM + 1 or status:
+                self.differences += 1
+                print(f"services: {name}: {len(lines)} lines, status {status}")
 
     def drawn(self, count):
         for number in range(count):
@@ -93,6 +110,7 @@ def main():
         sweep = Sweep(words.program, words.seed, folder)
         sweep.drawn(words.count)
         sweep.rough(words.count)
+        sweep.crowds()
     lacking = [why for why in WHY if why not in sweep.reasons]
     if lacking:
         print(f"services: nothing ended as {', '.join(lacking)}")
