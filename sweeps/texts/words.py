@@ -170,7 +170,7 @@ def values():
     for words, told, usage in TOLD_FIRST:
         yield words, 2, f"{told}\n\n{usage}\n"
     for command, files, usage in (("recording", "--types|nowhere|missing", RECORDING), ("extract", "missing", EXTRACT),
-                                  ("show", "--types|nowhere|missing", SHOW)):
+                                  ("services", "missing", SERVICES), ("show", "--types|nowhere|missing", SHOW)):
         for text in BAD_SERVICES:
             yield (f"{command}|--service|{text}|{files}", 2, f"error: invalid value '{text}' for "
                    "'--service <SERVICES>': services are four hex digits, perhaps with a dot and four more, with "
