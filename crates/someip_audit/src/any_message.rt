@@ -90,10 +90,7 @@ pub fn is_sd(origin: &Origin, header: &Header) -> bool
 }
 
 /// Reads the payload of a message of Service Discovery, and keeps want of memory apart from its faults.
-pub fn read_payload(
-    alloc: Global,
-    payload: &[u8],
-) -> Result<Result<SdRead, SdError>, AllocError>
+pub fn read_payload(alloc: Global, payload: &[u8]) -> Result<Result<SdRead, SdError>, AllocError>
     ensures { IfOk result (λ found. result_map_both view_sd (λ e. e) found ≡ reading payload.now) }
 {
     SdError::apart(read_sd(alloc, payload))

@@ -172,7 +172,6 @@ GoesOn now from here = (moments : List ℕ) (after : Work) → Expires now momen
 pub goes_first : (now : ℕ) (from here : Work) → here ≡ record { known = from.known; told = [] } → GoesOn now from here
 goes_first now from here is moments after e = record { moments = moments; expires = subst (λ (w : Work). Expires now moments w after) is e }
 
-
 pub goes_more : (now at : ℕ) (from here next : Work) → GoesOn now from here → at ≤ now → IsNextEnd at here.known → next ≡ expired_taken at here → GoesOn now from next
 goes_more now at from here next goes less is_next is moments after e = goes (at ∷ moments) after (less, is_next, subst (λ (w : Work). Expires now moments w after) is e)
 

@@ -249,6 +249,7 @@ offer_kind_lasts service.Offer origin entry endpoint x is = pick (entry.ttl == 0
     begins : (e : Option SocketAddrV4) → (entry.ttl == 0) ≡ false → offer_begins origin entry e ≡ Some x → IsLasting x
     begins None more is = absurd (cc)
     begins (Some e) more is = lasts_as _ x is (nonzero entry.ttl more)
+
     pick : (b : Bool) → (entry.ttl == 0) ≡ b → cond b (Some (KeyEnds (offered_key origin entry) why.Stopped)) (offer_begins origin entry endpoint) ≡ Some x → IsLasting x
     pick true none is = lasts_as _ x is tt
     pick false more is = begins endpoint more is
@@ -435,18 +436,25 @@ follows_more limit overtake seen earlier before own told was known so_far takes 
   where
     between : Work
     between = takes.between
+
     first : Work
     first = record { known = was; told = [] }
+
     p : PassesOffers seen.now first between
     p = offers_pass seen.now takes.passes.moments first between takes.passes.expires
+
     q : PassesSubscriptions seen.now first between
     q = subscriptions_pass seen.now takes.passes.moments first between takes.passes.expires
+
     same : between.known.sessions ≡ sessions_of limit overtake earlier
     same = p.sessions ∙ so_far.sessions
+
     start : Shows
     start = record { sessions = between.known.sessions; offers = []; subscriptions = [] }
+
     shows : Shows
     shows = shown_by seen between.known.sessions
+
     agreed : Agrees seen.now between (items_taken seen.now seen.origin (items_of seen.bytes) between) shows
     agreed = items_agree seen.now between seen.origin (items_of seen.bytes) between start (record {
       sessions = refl;

@@ -7,7 +7,9 @@ ghost use Rattle.audit_services.specs.SubscribedKeys.{place_at};
 ghost use Rattle.someip_audit.specs.SdEntries.{sender};
 ghost use Rattle.someip_services.specs.Entries.{withdrawn, withdrawn_by_kind};
 
-use audit_services::{Asked, NoTerms, OfferPlace, OfferTerms, Offered, Place, Shown, Subscribed, Why};
+use audit_services::{
+    Asked, NoTerms, OfferPlace, OfferTerms, Offered, Place, Shown, Subscribed, Why,
+};
 use sd_wire::{EntryHead, EventgroupEntry, EventgroupKind, ReadEntry, ServiceEntry, ServiceKind};
 use someip_tables::hashed::Origin;
 use std::net::{Ipv4Addr, SocketAddrV4};
@@ -39,11 +41,7 @@ pub(crate) fn subscription_shown(origin: &Origin, entry: &ReadEntry) -> Option<S
 }
 
 /// What an entry with this head and endpoint shows of offers.
-fn offer_by(
-    origin: &Origin,
-    head: &EntryHead,
-    endpoint: Option<SocketAddrV4>,
-) -> Option<OfferShown>
+fn offer_by(origin: &Origin, head: &EntryHead, endpoint: Option<SocketAddrV4>) -> Option<OfferShown>
     ensures { result ≡ offer_by origin.now head.now endpoint }
 {
     match head {
@@ -171,7 +169,13 @@ fn answers(origin: &Origin, entry: &EventgroupEntry) -> SubscriptionShown
         client: *origin.to.ip(),
         counter: entry.counter.number(),
     };
-    let place = place_at(origin, entry.service, entry.instance, entry.major, Some(asked));
+    let place = place_at(
+        origin,
+        entry.service,
+        entry.instance,
+        entry.major,
+        Some(asked),
+    );
     if entry.ttl.seconds() == 0 {
         return Shown::PlaceEnds(place, Why::Refused);
     }
@@ -179,13 +183,7 @@ fn answers(origin: &Origin, entry: &EventgroupEntry) -> SubscriptionShown
 }
 
 /// The subscriptions to what the sender offers, or those that one of its answers is for.
-fn place_at(
-    origin: &Origin,
-    service: u16,
-    instance: u16,
-    major: u8,
-    asked: Option<Asked>,
-) -> Place
+fn place_at(origin: &Origin, service: u16, instance: u16, major: u8, asked: Option<Asked>) -> Place
     ensures { result ≡ place_at (sender origin.now) service instance major asked }
 {
     Place {

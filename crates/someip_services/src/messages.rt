@@ -94,7 +94,12 @@ impl ServiceHistory {
     }
 
     /// A node began again.
-    fn begin_again(&mut self, alloc: Global, now: Moment, address: Ipv4Addr) -> Result<(), AllocError>
+    fn begin_again(
+        &mut self,
+        alloc: Global,
+        now: Moment,
+        address: Ipv4Addr,
+    ) -> Result<(), AllocError>
         ensures { OnOk result (self.new ≡ begun_again now address self.old) }
     {
         self.change_offers(alloc, now, Shown::PlaceEnds(address, Why::Reboot))?;
@@ -146,9 +151,7 @@ impl ServiceHistory {
         ensures { OnOk result (self.new ≡ offers_changed now shown self.old) }
     {
         self.ended_offers.clear();
-        let full = self
-            .offers
-            .take(alloc, now, shown, &mut self.ended_offers)?;
+        let full = self.offers.take(alloc, now, shown, &mut self.ended_offers)?;
         append_offers(&mut self.told, &self.ended_offers)?;
         self.tell_full(full, FullBook::Offers)
     }

@@ -38,5 +38,6 @@ module _ {A : Type 0} (takes : A → Came → List ℕ → A → Type 0) where
     where
       there : 0 + length xs ≡ n
       there = omega (arith, count)
+
       same : came_in xs ++ came_from (0 + length xs) (latest_of 0 xs) (x ∷ []) ≡ came_in xs ++ came_next n l x ∷ []
       same = ap (λ k. came_in xs ++ came_from k (latest_of 0 xs) (x ∷ [])) there ∙ ap (λ k. came_in xs ++ came_from n k (x ∷ [])) (sym moment)

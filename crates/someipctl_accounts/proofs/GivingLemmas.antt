@@ -148,6 +148,7 @@ module _ {A : Type 0} (takes : A → Came → List ℕ → A → Type 0) (ends :
     where
       done : List Item
       done = is.done
+
       by_given : (given : Option ArrivalValue) → arrived c s found ≡ given → PutsRecord takes given account more going gone later waits last rest → IsGiven next k new before last rest more gone t
       by_given None none (same, still, prints) =
           let came_same : came c (One done found) ≡ came c done = came_one done found None s is.took none ∙ append-nil (came c done) in record {
@@ -184,10 +185,13 @@ module _ {A : Type 0} (takes : A → Came → List ℕ → A → Type 0) (ends :
     where
       done : List Item
       done = is.done
+
       sent : Sends before [] later waits is.text
       sent = Sends-flush before after later [] held waits is.text is.sends sends
+
       here : Stops later waits last [] → BeginsAccount takes ends inputs c begun before last
       here stop = begins ares k r before last done is.text account is.reads is.takes_all (Stops-flush before later last [] waits is.text sent stop)
+
       by_given : (given : Option ArrivalValue) → arrived c s found ≡ given → StopsRecord takes given account going later waits last → BeginsAccount takes ends inputs c begun before last
       by_given None none stop = here stop
       by_given (Some x) some (inl stop) = here stop

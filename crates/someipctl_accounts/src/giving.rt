@@ -118,7 +118,15 @@ fn put_files<A: Account, R: Read, W: Write>(
             }
         }
         if let Some(found) = recording.record() {
-            put_record(buffer, writer, chosen, &found, &mut intake, account, &mut going)?;
+            put_record(
+                buffer,
+                writer,
+                chosen,
+                &found,
+                &mut intake,
+                account,
+                &mut going,
+            )?;
         }
     }
     put_end(buffer, writer, account, going.now, intake.left_out(), None)

@@ -13,8 +13,8 @@ ghost use Rattle.someipctl_cli.specs.CommandLine.{setting_options_by, texts_at, 
 
 use crate::explore_words::{ExploreOptions, explore_matched};
 use crate::extract_words::{ExtractOptions, extract_matched};
-use crate::report_words::{ReportOptions, services_matched};
 use crate::grammar::definition;
+use crate::report_words::{ReportOptions, services_matched};
 use clap::ArgMatches;
 use clap::error::ErrorKind;
 use someipctl_recordings::audit::SettingTexts;

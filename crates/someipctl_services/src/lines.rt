@@ -29,7 +29,13 @@ pub(crate) fn put_told<W: Write>(
     match told {
         Told::Offer(ended) => put_headless(buffer, writer, form, "offer", &offer_fields(ended)),
         Told::Subscription(ended) => {
-            put_headless(buffer, writer, form, "subscription", &subscription_fields(ended))
+            put_headless(
+                buffer,
+                writer,
+                form,
+                "subscription",
+                &subscription_fields(ended),
+            )
         }
         Told::Full(book) => put_headless(buffer, writer, form, "full", &full_fields(*book)),
     }
