@@ -23,7 +23,7 @@ full_after now (Came flow cycle_ms numbers) book is = cases (may_hold book.limit
     cases : (b : Bool) → (roomed book flow (watch_from now cycle_ms numbers) b).told_full ≡ true
     cases true = is
     cases false = refl
-full_after now (Unsubscribed server service receiver) book is = is
+full_after now (Unsubscribed server service client) book is = is
 full_after now (Withdrawn server service) book is = is
 full_after now (BeganAgain address) book is = is
 
@@ -51,7 +51,7 @@ get-after now (Came other cycle_ms numbers) book flow fits = cases (may_hold boo
         → finite.get (roomed book other (watch_from now cycle_ms numbers) b).watched flow ≡ after_step now (Came other cycle_ms numbers) flow (finite.get book.watched flow)
     cases true is = finite.get-insert flows_total book.watched other (watch_from now cycle_ms numbers) flow
     cases false is = absurd (cc)
-get-after now (Unsubscribed server service receiver) book flow fits = ended (goes_by server service receiver) book.watched flow
+get-after now (Unsubscribed server service client) book flow fits = ended (goes_by server service client) book.watched flow
 get-after now (Withdrawn server service) book flow fits = ended (is_of_service server service) book.watched flow
 get-after now (BeganAgain address) book flow fits = ended (is_at address) book.watched flow
 

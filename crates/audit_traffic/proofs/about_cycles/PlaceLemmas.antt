@@ -6,8 +6,7 @@ use Rattle.std.specs.declared.cmp.Ordering.TheVariants.{Less, Equal, Greater}
 use Rattle.std.specs.Ordering.{eq_by_cmp, is_eq, nat_cmp, ordering_then}
 use Rattle.std.specs.FinMap.{retain_keys}
 use Rattle.std.specs.declared.net.ipv4_addr.Ipv4Addr.{Ipv4Addr}
-use Rattle.std.specs.declared.net.socket_addr.SocketAddrV4.{SocketAddrV4}
-use Rattle.someip_tables.specs.Endpoints.{address_cmp, endpoint_cmp}
+use Rattle.someip_tables.specs.Endpoints.{address_cmp}
 use Rattle.audit_traffic.specs.declared.events.flow.EventFlow.{EventFlow}
 use Rattle.audit_traffic.specs.events.EventRules as rules
 use Rattle.audit_traffic.specs.cycles.CycleRules.{goes_by, is_of_service}
@@ -80,10 +79,10 @@ by_subscription a b n e =
     cases Equal Equal = refl
     cases Equal Greater = refl
 
-subscription_is : (server : Ipv4Addr) (service : ℕ) (receiver : SocketAddrV4) (flow : EventFlow) → is_at (at_subscription server service receiver) flow ≡ goes_by server service receiver flow
-subscription_is server service receiver flow =
-    by_subscription (address_cmp flow.sender.ip server) (address_cmp flow.receiver.ip server) (nat_cmp flow.service service) (endpoint_cmp flow.receiver receiver)
-    ∙ ap (λ b. is_eq (address_cmp flow.sender.ip server) && (b && eq_by_cmp endpoint_cmp flow.receiver receiver)) (number_eq flow.service service)
+subscription_is : (server : Ipv4Addr) (service : ℕ) (client : Ipv4Addr) (flow : EventFlow) → is_at (at_subscription server service client) flow ≡ goes_by server service client flow
+subscription_is server service client flow =
+    by_subscription (address_cmp flow.sender.ip server) (address_cmp flow.receiver.ip server) (nat_cmp flow.service service) (address_cmp flow.receiver.ip client)
+    ∙ ap (λ b. is_eq (address_cmp flow.sender.ip server) && (b && eq_by_cmp address_cmp flow.receiver.ip client)) (number_eq flow.service service)
 
 -- ---- so what is left is the same
 
@@ -96,6 +95,6 @@ left_by_address address m = kept_alike (is_at (at_address address)) (rules.is_at
 pub left_by_service : (server : Ipv4Addr) (service : ℕ) (m : Watches) → retain_keys m (λ flow. not (is_at (at_service server service) flow)) ≡ retain_keys m (λ flow. not (is_of_service server service flow))
 left_by_service server service m = kept_alike (is_at (at_service server service)) (is_of_service server service) m (service_is server service)
 
-pub left_by_subscription : (server : Ipv4Addr) (service : ℕ) (receiver : SocketAddrV4) (m : Watches)
-    → retain_keys m (λ flow. not (is_at (at_subscription server service receiver) flow)) ≡ retain_keys m (λ flow. not (goes_by server service receiver flow))
-left_by_subscription server service receiver m = kept_alike (is_at (at_subscription server service receiver)) (goes_by server service receiver) m (subscription_is server service receiver)
+pub left_by_subscription : (server : Ipv4Addr) (service : ℕ) (client : Ipv4Addr) (m : Watches)
+    → retain_keys m (λ flow. not (is_at (at_subscription server service client) flow)) ≡ retain_keys m (λ flow. not (goes_by server service client flow))
+left_by_subscription server service client m = kept_alike (is_at (at_subscription server service client)) (goes_by server service client) m (subscription_is server service client)

@@ -71,7 +71,7 @@ module _ (flow : EventFlow) (watch : Watch) where
 
       by : Rest → (shown : Shown) → step.shown ≡ shown → after_step step.at shown flow (unless_silent step.at (watched_in earlier flow)) ≡ Some watch → IsWatched flow watch (step ∷ earlier)
       by rest (Came other cycle_ms numbers) same e = came rest other cycle_ms numbers same (eq_by_cmp flow_cmp flow other) refl e
-      by rest (Unsubscribed server service receiver) same e = stays rest (Unsubscribed server service receiver) same (goes_by server service receiver flow) refl e
+      by rest (Unsubscribed server service client) same e = stays rest (Unsubscribed server service client) same (goes_by server service client flow) refl e
       by rest (Withdrawn server service) same e = stays rest (Withdrawn server service) same (is_of_service server service flow) refl e
       by rest (BeganAgain address) same e = stays rest (BeganAgain address) same (is_at address flow) refl e
 
@@ -79,7 +79,7 @@ module _ (flow : EventFlow) (watch : Watch) where
 
   unchanged : (at : ℕ) (shown : Shown) → leaves flow shown ≡ true → after_step at shown flow (Some watch) ≡ Some watch
   unchanged at (Came other cycle_ms numbers) is = rw (not_true (eq_by_cmp flow_cmp flow other) is) refl
-  unchanged at (Unsubscribed server service receiver) is = rw (not_true (goes_by server service receiver flow) is) refl
+  unchanged at (Unsubscribed server service client) is = rw (not_true (goes_by server service client flow) is) refl
   unchanged at (Withdrawn server service) is = rw (not_true (is_of_service server service flow) is) refl
   unchanged at (BeganAgain address) is = rw (not_true (is_at address flow) is) refl
 

@@ -2,7 +2,7 @@
 use Rattle.std.specs.Prelude.{ℕ, List, Option, option_map}
 use Rattle.someip_tables.specs.declared.hashed.origin.Numbers.{Numbers}
 use Rattle.audit_traffic.specs.declared.cycles.watch.Watch.{Watch}
-use Rattle.audit_traffic.specs.events.EventExamples.{endpoint, flow_to, node}
+use Rattle.audit_traffic.specs.events.EventExamples.{flow_to, node}
 use Rattle.audit_traffic.specs.cycles.CycleHistories.{BeganAgain, Came, Step, Unsubscribed, Withdrawn, watched_in}
 
 -- the numbers of a datagram
@@ -18,7 +18,7 @@ another_comes moment to = record { at = moment; shown = Came (flow_to 0x8002 (no
 
 -- a subscription of a node ends, an offer of a service is withdrawn, a node begins again
 abbrev pub unsubscribed : ℕ → ℕ → ℕ → Step
-unsubscribed moment service to = record { at = moment; shown = Unsubscribed (node 9) service (endpoint (node to)) }
+unsubscribed moment service to = record { at = moment; shown = Unsubscribed (node 9) service (node to) }
 
 abbrev pub withdrawn : ℕ → ℕ → Step
 withdrawn moment service = record { at = moment; shown = Withdrawn (node 9) service }

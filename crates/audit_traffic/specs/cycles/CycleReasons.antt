@@ -13,7 +13,7 @@ use Rattle.audit_traffic.specs.cycles.CycleHistories.{BeganAgain, Came, Shown, S
 -- a step leaves the watch of a flow as it is: no event of the flow came, and its watch did not end
 abbrev pub leaves : EventFlow → Shown → Bool
 leaves flow (Came other cycle_ms numbers) = not (eq_by_cmp flow_cmp flow other)
-leaves flow (Unsubscribed server service receiver) = not (goes_by server service receiver flow)
+leaves flow (Unsubscribed server service client) = not (goes_by server service client flow)
 leaves flow (Withdrawn server service) = not (is_of_service server service flow)
 leaves flow (BeganAgain address) = not (is_at address flow)
 

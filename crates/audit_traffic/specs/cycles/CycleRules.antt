@@ -2,8 +2,7 @@
 use Rattle.std.specs.Prelude.{ℕ, ◌+◌, ◌*◌, ◌==◌, nat_le, Bool, not, ◌&&◌, Option, Some}
 use Rattle.std.specs.Ordering.{eq_by_cmp}
 use Rattle.std.specs.declared.net.ipv4_addr.Ipv4Addr.{Ipv4Addr}
-use Rattle.std.specs.declared.net.socket_addr.SocketAddrV4.{SocketAddrV4}
-use Rattle.someip_tables.specs.Endpoints.{address_cmp, endpoint_cmp}
+use Rattle.someip_tables.specs.Endpoints.{address_cmp}
 use Rattle.someip_tables.specs.Retained.{kept_if}
 use Rattle.someip_tables.specs.declared.hashed.origin.Numbers.{Numbers}
 use Rattle.audit_traffic.specs.declared.cycles.watch.Watch.{Watch}
@@ -29,6 +28,6 @@ unless_silent now = kept_if (λ watch. not (is_silent_by now watch))
 abbrev pub is_of_service : Ipv4Addr → ℕ → EventFlow → Bool
 is_of_service server service flow = eq_by_cmp address_cmp flow.sender.ip server && (flow.service == service)
 
--- and goes to an endpoint
-abbrev pub goes_by : Ipv4Addr → ℕ → SocketAddrV4 → EventFlow → Bool
-goes_by server service receiver flow = eq_by_cmp address_cmp flow.sender.ip server && ((flow.service == service) && eq_by_cmp endpoint_cmp flow.receiver receiver)
+-- and goes to a client's address
+abbrev pub goes_by : Ipv4Addr → ℕ → Ipv4Addr → EventFlow → Bool
+goes_by server service client flow = eq_by_cmp address_cmp flow.sender.ip server && ((flow.service == service) && eq_by_cmp address_cmp flow.receiver.ip client)

@@ -4,7 +4,6 @@ use Rattle.std.specs.Coded.{Coded, code_by, coded×, coded_ℕ, coded_bool}
 use Rattle.std.specs.FinMap as finite
 use Rattle.std.specs.FinMap.{FinMap}
 use Rattle.std.specs.declared.net.ipv4_addr.Ipv4Addr.{Ipv4Addr}
-use Rattle.std.specs.declared.net.socket_addr.SocketAddrV4.{SocketAddrV4}
 use Rattle.someip_tables.specs.declared.hashed.origin.Numbers.{Numbers}
 use Rattle.someip_tables.specs.hashed.Dues.{IsFirstDue}
 use Rattle.someip_tables.specs.hashed.Origins.{coded_numbers}
@@ -43,8 +42,8 @@ after_event now flow cycle_ms numbers book =
 -- ---- what ends watches
 
 -- the book once a subscription ended, an offer was withdrawn, or an address began again
-abbrev pub without_subscribed : Ipv4Addr → ℕ → SocketAddrV4 → Cycles → Cycles
-without_subscribed server service receiver book = record book { watched = finite.retain_keys book.watched (λ flow. not (goes_by server service receiver flow)) }
+abbrev pub without_subscribed : Ipv4Addr → ℕ → Ipv4Addr → Cycles → Cycles
+without_subscribed server service client book = record book { watched = finite.retain_keys book.watched (λ flow. not (goes_by server service client flow)) }
 
 abbrev pub without_service : Ipv4Addr → ℕ → Cycles → Cycles
 without_service server service book = record book { watched = finite.retain_keys book.watched (λ flow. not (is_of_service server service flow)) }

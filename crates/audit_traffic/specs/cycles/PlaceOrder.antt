@@ -5,7 +5,7 @@ use Rattle.std.specs.declared.cmp.Ordering.{Ordering}
 use Rattle.std.specs.Cmp.Lexicographic.{options_total}
 use Rattle.std.proofs.lemmas.Map.Lookups.{CmpEqualImpliesEq}
 use Rattle.someip_tables.specs.Orders.{KeyOrder, numbers, by_pair, by_parts}
-use Rattle.someip_tables.specs.EndpointOrder.{addresses, endpoints}
+use Rattle.someip_tables.specs.EndpointOrder.{addresses}
 use Rattle.audit_traffic.specs.cycles.WatchPlaces.{place_cmp}
 
 exact_options : {K : Type 0} (R : K → K → Ordering) → CmpEqualImpliesEq R → CmpEqualImpliesEq (option_cmp R)
@@ -19,7 +19,7 @@ by_option {R = R} order = record { total = options_total order.total; exact = ex
 
 pub places : KeyOrder place_cmp
 places =
-    by_parts (by_pair addresses (by_pair (by_option numbers) (by_option endpoints))) (λ p. (p.address, (p.service, p.receiver)))
+    by_parts (by_pair addresses (by_pair (by_option numbers) (by_option addresses))) (λ p. (p.address, (p.service, p.receiver)))
     (λ p. record { address = p.0; service = p.1.0; receiver = p.1.1 }) (λ _. refl)
 
 pub exact_places : CmpEqualImpliesEq place_cmp

@@ -5,8 +5,7 @@ use Rattle.std.specs.Ordering.{eq_by_cmp, nat_cmp, ordering_then}
 use Rattle.std.specs.FinMap.{get}
 use Rattle.std.specs.declared.cmp.Ordering.{Ordering}
 use Rattle.std.specs.declared.net.ipv4_addr.Ipv4Addr.{Ipv4Addr}
-use Rattle.std.specs.declared.net.socket_addr.SocketAddrV4.{SocketAddrV4}
-use Rattle.someip_tables.specs.Endpoints.{address_cmp, endpoint_cmp}
+use Rattle.someip_tables.specs.Endpoints.{address_cmp}
 use Rattle.audit_index.specs.declared.slot.Slot.{Slot}
 use Rattle.audit_index.specs.Slots.{stands}
 use Rattle.audit_traffic.specs.declared.cycles.watch.Watch.{Watch}
@@ -17,16 +16,16 @@ use Rattle.audit_traffic.specs.cycles.CycleTables.{Watches}
 
 -- by address, then by service and by receiver, each without one first
 abbrev pub place_cmp : WatchPlace → WatchPlace → Ordering
-place_cmp a b = ordering_then (address_cmp a.address b.address) (ordering_then (option_cmp nat_cmp a.service b.service) (option_cmp endpoint_cmp a.receiver b.receiver))
+place_cmp a b = ordering_then (address_cmp a.address b.address) (ordering_then (option_cmp nat_cmp a.service b.service) (option_cmp address_cmp a.receiver b.receiver))
 
--- of an address, of a service at it, and of what goes from that to an endpoint
+-- of an address, of a service at it, and of what goes from that to another address
 abbrev pub at_address : Ipv4Addr → WatchPlace
 at_address address = record { address = address; service = None; receiver = None }
 
 abbrev pub at_service : Ipv4Addr → ℕ → WatchPlace
 at_service server service = record { address = server; service = Some service; receiver = None }
 
-abbrev pub at_subscription : Ipv4Addr → ℕ → SocketAddrV4 → WatchPlace
+abbrev pub at_subscription : Ipv4Addr → ℕ → Ipv4Addr → WatchPlace
 at_subscription server service receiver = record { address = server; service = Some service; receiver = Some receiver }
 
 -- the places of a flow
@@ -40,7 +39,7 @@ abbrev pub service_place : EventFlow → WatchPlace
 service_place flow = at_service flow.sender.ip flow.service
 
 abbrev pub subscription_place : EventFlow → WatchPlace
-subscription_place flow = at_subscription flow.sender.ip flow.service flow.receiver
+subscription_place flow = at_subscription flow.sender.ip flow.service flow.receiver.ip
 
 -- a flow is at a place
 abbrev pub is_at : WatchPlace → EventFlow → Bool

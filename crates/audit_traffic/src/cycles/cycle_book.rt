@@ -17,7 +17,7 @@ use someip_tables::Moment;
 use someip_tables::hashed::{Numbers, Room};
 use std::alloc::{AllocError, Global};
 use std::marker::Model;
-use std::net::{Ipv4Addr, SocketAddrV4};
+use std::net::Ipv4Addr;
 
 /// The flows of events that come in cycles, each watched from its last event on.
 #[derive(Drop)]
@@ -84,13 +84,14 @@ impl CycleBook {
         Ok(None)
     }
 
-    /// A subscription ended by which the events of a service at an address went to an endpoint: these are
-    /// watched no more, each until it comes again. It looks at these alone, and takes no memory.
-    pub fn unsubscribed(&mut self, server: Ipv4Addr, service: u16, receiver: SocketAddrV4)
-        ensures { self.new ≡ without_subscribed server service receiver self.old }
+    /// A subscription of a client to a service at an address ended: the events of the service from there to the
+    /// client's address are watched no more, each until it comes again. It looks at these alone, and takes no
+    /// memory.
+    pub fn unsubscribed(&mut self, server: Ipv4Addr, service: u16, client: Ipv4Addr)
+        ensures { self.new ≡ without_subscribed server service client self.old }
     {
         self.watched
-            .end(WatchPlace::of_subscription(server, service, receiver));
+            .end(WatchPlace::of_subscription(server, service, client));
     }
 
     /// A server withdrew an offer of a service: the events of the service at its address are watched no more,

@@ -7,18 +7,18 @@ ghost use Rattle.audit_traffic.specs.cycles.WatchPlaces.{subscription_place};
 
 use crate::events::EventFlow;
 use someip_tables::{Key, is_same_key};
-use std::net::{Ipv4Addr, SocketAddrV4};
+use std::net::Ipv4Addr;
 
 /// A place at which the watches of flows are found: an address from which or to which they go, a service at the
-/// address that they come from, or an endpoint to which the events of such a service go.
+/// address that they come from, or an address to which the events of such a service go.
 #[derive(Clone, Copy, Debug, PartialEq, Eq, PartialOrd, Ord)]
 pub(crate) struct WatchPlace {
     /// The address.
     pub(crate) address: Ipv4Addr,
     /// Service ID, of a service at the address.
     pub(crate) service: Option<u16>,
-    /// The endpoint to which the events of the service go.
-    pub(crate) receiver: Option<SocketAddrV4>,
+    /// The address to which the events of the service go.
+    pub(crate) receiver: Option<Ipv4Addr>,
 }
 
 impl Key for WatchPlace {
@@ -48,12 +48,8 @@ impl WatchPlace {
         }
     }
 
-    /// Of the events of a service at an address that go to an endpoint.
-    pub(crate) fn of_subscription(
-        server: Ipv4Addr,
-        service: u16,
-        receiver: SocketAddrV4,
-    ) -> WatchPlace
+    /// Of the events of a service at an address that go to another one.
+    pub(crate) fn of_subscription(server: Ipv4Addr, service: u16, receiver: Ipv4Addr) -> WatchPlace
         ensures { result ≡ at_subscription server service receiver }
     {
         WatchPlace {
@@ -89,7 +85,7 @@ pub(crate) fn service_place(flow: &EventFlow) -> WatchPlace
 pub(crate) fn subscription_place(flow: &EventFlow) -> WatchPlace
     ensures { result ≡ subscription_place flow.now }
 {
-    WatchPlace::of_subscription(*flow.sender.ip(), flow.service, flow.receiver)
+    WatchPlace::of_subscription(*flow.sender.ip(), flow.service, *flow.receiver.ip())
 }
 
 /// Whether a flow is at a place.
