@@ -2,8 +2,9 @@
 
 Each recording of `books.py` fills one book of `audit` with its limit of keys, and hits it as often where a hit concerns
 many of them. The same is made with half as many keys and hits. The one may cost 2.3 times the instructions of the
-other, as `valgrind --tool=callgrind` counts them. Where that is not there, user time is compared, with 3.2 times.
-Run by `sweeps/run growth`: sweep.py PROGRAM [BOOK..]; without words those that hold are tried, with `all` the others too.
+other, as `valgrind --tool=callgrind` counts them. Where that is not there, user time is compared, with 3.2 times. What is
+to be told of each key has to be.
+Run by `sweeps/run growth`: sweep.py PROGRAM [BOOK..]; with words these books are tried, or `all`, and their costs printed.
 """
 import concurrent.futures
 import os
@@ -44,10 +45,22 @@ def user_time(program, path):
     return min(times)
 
 
+def look_at(program, path, name, keys):
+    """Raises an error where what is to be told of each key is told of fewer."""
+    kind = books.TOLD.get(name)
+    if kind is None:
+        return
+    run = subprocess.run([program, "audit", path], stdout=subprocess.PIPE, stderr=subprocess.DEVNULL, text=True, check=False)
+    told = re.search(rf"^{kind} (\d+)$", run.stdout, re.M)
+    if not told or int(told[1]) < keys * 15 // 16:
+        raise RuntimeError(f"{name}: of {keys} keys too few show {kind}")
+
+
 def cost(program, room, name, keys):
     path = os.path.join(room, f"{name.replace(' ', '-')}.{keys}")
     with open(path, "wb") as out:
         out.write(wire.pcap(books.BOOKS[name](keys), nanoseconds=True))
+    look_at(program, path, name, keys)
     found = instructions(program, path) if VALGRIND else user_time(program, path)
     os.remove(path)
     return found
@@ -64,7 +77,7 @@ def tried(program, names):
 
 def main():
     program, *asked = sys.argv[1:]
-    names = list(books.BOOKS) if asked == ["all"] else asked or list(books.HELD)
+    names = list(books.BOOKS) if asked in ([], ["all"]) else asked
     most, findings = MOST if VALGRIND else MOST_BY_TIME, 0
     for name, half, whole in tried(program, names):
         if asked:

@@ -1,4 +1,5 @@
 pub mod about_calls
+pub mod about_cycles
 pub mod about_events
 pub mod about_gaps
 pub mod about_segments

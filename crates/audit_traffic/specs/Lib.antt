@@ -1,4 +1,5 @@
 pub mod calls
+pub mod cycles
 pub mod events
 pub mod gaps
 pub mod segments
