@@ -1,0 +1,2 @@
+pub mod StatsLines
+pub mod StatsText
