@@ -63,7 +63,13 @@ pub(crate) fn put_discovery<W: Write>(
     ensures err { OnErr result (Stops (W.contents writer.old) buffer.old (W.contents writer.new)
         (line_text form no_head (discovery_line way.now figures.now))) }
 {
-    put_headless(buffer, writer, form, "discovery", &discovery_fields(way, figures))
+    put_headless(
+        buffer,
+        writer,
+        form,
+        "discovery",
+        &discovery_fields(way, figures),
+    )
 }
 
 /// Prints the line of something for which there is no room.
@@ -91,9 +97,17 @@ fn method_fields<'t>(flow: &Flow, figures: &MethodFigures, times: &'t Times) -> 
         field_of(" ", "client", Said::Endpoint(flow.from)),
         field_of(" ", "server", Said::Endpoint(flow.to)),
         field_of(" calls ", "calls", Said::Number(figures.calls as usize)),
-        field_of(" answers ", "answers", Said::Number(figures.answers as usize)),
+        field_of(
+            " answers ",
+            "answers",
+            Said::Number(figures.answers as usize),
+        ),
         field_of(" errors ", "errors", Said::Number(figures.errors as usize)),
-        field_of(" unanswered ", "unanswered", Said::Number(figures.unanswered() as usize)),
+        field_of(
+            " unanswered ",
+            "unanswered",
+            Said::Number(figures.unanswered() as usize),
+        ),
         field_of(" latency ", "least", said_of_time(&times.least)),
         field_of(" ", "p50", said_of_time(&times.p50)),
         field_of(" ", "p99", said_of_time(&times.p99)),
@@ -127,8 +141,16 @@ fn discovery_fields(way: &Way, figures: &DiscoveryFigures) -> [Field<'static>; 4
     [
         field_of("discovery ", "from", Said::Endpoint(way.from)),
         field_of(" ", "to", Said::Endpoint(way.to)),
-        field_of(" messages ", "messages", Said::Number(figures.messages as usize)),
-        field_of(" reboots ", "reboots", Said::Number(figures.reboots as usize)),
+        field_of(
+            " messages ",
+            "messages",
+            Said::Number(figures.messages as usize),
+        ),
+        field_of(
+            " reboots ",
+            "reboots",
+            Said::Number(figures.reboots as usize),
+        ),
     ]
 }
 

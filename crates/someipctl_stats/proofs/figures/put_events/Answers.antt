@@ -1,4 +1,4 @@
-use Rattle.std.proofs.Common.{ap, sym, ◌∙◌}
+use Rattle.std.proofs.Common.{ap}
 use Rattle.someipctl_io.proofs.SendingLemmas.{IsSending-more, IsSending-start, IsSending-stop, OnErr-any}
 use Rattle.someipctl_stats.specs.StatsText.{lines_of_events}
 use Rattle.someipctl_stats.proofs.figures.put_events.Goals as goal
