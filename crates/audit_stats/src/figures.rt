@@ -8,7 +8,7 @@ ghost use Rattle.audit_stats.specs.declared.events.EventFigures.{EventFigures};
 ghost use Rattle.audit_stats.specs.declared.keys.Flow.{Flow};
 ghost use Rattle.audit_stats.specs.declared.keys.Way.{Way};
 ghost use Rattle.audit_stats.specs.declared.methods.MethodFigures.{MethodFigures};
-ghost use Rattle.audit_stats.specs.Stats.{BeganAgain, Came, Discovered, Lost, after_fact, fact_takes, no_stats, told_of_fact};
+ghost use Rattle.audit_stats.specs.Stats.{BeganAgain, Came, Discovered, Lost, after_fact, fact_takes, has_told, no_stats, told_of_fact};
 
 use crate::calls::{MethodTable, WaitTable, answered, called};
 use crate::discovery::{DiscoveryChange, DiscoveryFigures};
@@ -128,6 +128,18 @@ impl Figures {
     {
         self.discovery
             .came(way, DiscoveryChange::BeganAgain, Full::Discovery)
+    }
+
+    /// Whether it was told that there is no room for something.
+    pub fn has_told(&self, full: Full) -> bool
+        ensures { result ≡ has_told full self.now }
+    {
+        match full {
+            Full::Methods => self.methods.told_full(),
+            Full::Events => self.events.told_full(),
+            Full::Discovery => self.discovery.told_full(),
+            Full::Calls => self.waiting.told_full(),
+        }
     }
 
     /// The figures of methods, by rising flow.

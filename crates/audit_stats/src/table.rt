@@ -61,6 +61,13 @@ impl<K: Key, V: Drop> Table<K, V> {
         self.room.tell_full(full)
     }
 
+    /// Whether it was told that the table is full.
+    pub(crate) fn told_full(&self) -> bool
+        ensures { result ≡ self.now.told_full }
+    {
+        self.room.told_full
+    }
+
     /// Counts a change under a key, whether or not it has room.
     pub(crate) fn count<C: Copy>(&mut self, key: K, change: C) -> Result<(), AllocError>
     where

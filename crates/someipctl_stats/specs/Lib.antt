@@ -1,0 +1,3 @@
+pub mod StatsLines
+pub mod StatsText
+pub mod Examples
