@@ -1,5 +1,5 @@
 -- What falls due between datagrams, over all books.
-use Rattle.std.specs.Prelude.{◌≡◌, ◌≤◌, ℕ, nat_le, max, if◌then◌else◌, Option, None, Some}
+use Rattle.std.specs.Prelude.{◌≡◌, ◌≤◌, ℕ, nat_le, max, false, if◌then◌else◌, Option, None, Some}
 use Rattle.std.specs.declared.cmp.Ordering.{Ordering}
 use Rattle.std.specs.declared.cmp.Ordering.TheVariants.{Equal}
 use Rattle.std.specs.Ordering.{nat_cmp, ordering_then}
@@ -14,7 +14,11 @@ use Rattle.audit_traffic.specs.cycles.CycleTables as cycles
 use Rattle.audit_traffic.specs.events.FlowKeys.{flow_cmp}
 use Rattle.audit_traffic.specs.gaps.MissingKeys.{missing_cmp}
 use Rattle.audit_traffic.specs.sequence.Sequences as events
-use Rattle.someip_tables.specs.Lastings.{expired}
+use Rattle.std.specs.declared.net.socket_addr.SocketAddrV4.{SocketAddrV4}
+use Rattle.someip_tables.specs.declared.lasting.Lasting.{Lasting}
+use Rattle.someip_tables.specs.Deadlines.{has_passed}
+use Rattle.audit_sd.specs.declared.subscriptions.key.SubscriptionKey.{SubscriptionKey}
+use Rattle.audit_sd.specs.receivers.ReceiverTables.{Subscriptions}
 use Rattle.audit_sd.specs.offers.OfferKeys.{offer_cmp}
 use Rattle.audit_sd.specs.offers.OfferRules.{passes_at}
 use Rattle.audit_sd.specs.offers.OfferTables as offers
@@ -56,7 +60,11 @@ key_cmp a b = Equal
 abbrev pub fell_cmp : FellDue → FellDue → Ordering
 fell_cmp a b = ordering_then (nat_cmp (deadline a) (deadline b)) (ordering_then (nat_cmp (book_of a) (book_of b)) (key_cmp a b))
 
--- it waits in its book, so as it is told; and of an event that is silent no subscription has expired that was not dropped
+-- none of the subscriptions that stand has passed by a moment
+abbrev pub NonePassed : ℕ → Subscriptions → Type 0
+NonePassed at standing = (key : SubscriptionKey) (lasting : Lasting SocketAddrV4) → finite.get standing key ≡ Some lasting → has_passed at lasting.until ≡ false
+
+-- it waits in its book, so as it is told; and a silent event only until a subscription has passed
 abbrev pub IsAwaited : Held → FellDue → Type 0
 IsAwaited held (due.Unanswered told) = IsOpenCall held.calls.calls told
 IsAwaited held (due.Missing told) = segments.IsWaiting held.segments.waiting told
@@ -64,7 +72,7 @@ IsAwaited held (due.Expired told) = (finite.get held.offers.standing told.key �
 IsAwaited held (due.SubscribeUnanswered told) = finite.get held.subscriptions.waiting told.key ≡ Some (record { origin = told.origin; until = told.at })
 IsAwaited held (due.EventLost told) = finite.get held.events.gaps.waiting told.key ≡ Some (record { shown_by = told.shown_by; numbers = told.numbers; until = told.at })
 IsAwaited held (due.Silent told) =
-    (finite.get held.cycles.watched told.flow ≡ Some (record { silent_ms = told.silent_ms; until = told.at; numbers = told.numbers })) × (expired told.at held.receivers.standing ≡ finite.empty)
+    (finite.get held.cycles.watched told.flow ≡ Some (record { silent_ms = told.silent_ms; until = told.at; numbers = told.numbers })) × NonePassed told.at held.receivers.standing
 
 -- and its deadline has come
 abbrev pub IsDue : ℕ → Held → FellDue → Type 0

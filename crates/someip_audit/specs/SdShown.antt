@@ -139,10 +139,11 @@ receiver_shown now entry work = record {
   told = with_told (option_map (findings.Receiver entry.key) (receivers.told_by entry work.held.receivers)) work.told;
 }
 
--- a subscription changes: the events from its server to its client may go to nobody
+-- where a subscription ends its events are watched no more
 abbrev pub unwatched_if : Bool → SubscriptionKey → Cycles → Cycles
-unwatched_if ends key cycles = if ends then cycles.without_subscribed key.server key.service key.client cycles else cycles
+unwatched_if ends key book = if ends then cycles.without_subscribed key.server key.service key.client book else book
 
+-- a subscription changes: the events from its server to its client may go to nobody
 abbrev pub changed : SubscribeEntry → Option SocketAddrV4 → Work → Work
 changed entry endpoint work = record work {
   held = record work.held {

@@ -129,7 +129,9 @@ impl<S: Reassembly> Books<S> {
         let offers = self.offers.next_due();
         let subscriptions = self.subscriptions.next_due();
         let lost = self.events.next_due();
-        let silent = unless_ended(self.cycles.next_due(), self.receivers.next_expiry());
+        let cycles = self.cycles.next_due();
+        let end = self.receivers.next_expiry();
+        let silent = unless_ended(cycles, end);
         let later = earlier(lost, silent);
         let others = earlier(subscriptions, later);
         let rest = earlier(offers, others);

@@ -7,7 +7,7 @@
 //! session of its event are told.
 ghost use Rattle.std.specs.Prelude.{◌≡◌, OnErr, OnOk, Some};
 ghost use Rattle.someip_wire.specs.View.{view};
-ghost use Rattle.someip_audit.specs.MessageShown.{cycle_shown};
+ghost use Rattle.someip_audit.specs.MessageShown.{cycle_shown, delivery};
 ghost use Rattle.someip_audit.specs.MessageShown.{call_shown, event_flow, event_shown, flow_shown};
 ghost use Rattle.someip_audit.specs.MessageShown.{goes_to_server, is_error, is_of_call, is_unicast};
 ghost use Rattle.someip_audit.specs.MessageShown.{judged_shown, message_shown, piece_shown, rest_shown};
