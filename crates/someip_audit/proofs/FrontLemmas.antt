@@ -402,8 +402,7 @@ flowed_begun now origin header held told mid late last more most much new is hea
     let heard : Work = event_shown now origin header judged in
     let flowed : Work = flow_shown now origin header heard in
     let at : much ≡ flowed.told = ap (λ (w : Work). w.told) (flows ∙ ap (flow_shown now origin header) (hears ∙ ap (event_shown now origin header) is)) in
-    rw (same, at)
-    (
+    rw (same, at) (
       front_further told judged.told _ (judged_front now origin header (working held told))
           (front_further judged.told heard.told _ (event_front now origin header judged) (flow_front now origin header heard)),
       cycle_front now origin header flowed,

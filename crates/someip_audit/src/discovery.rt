@@ -259,7 +259,8 @@ impl<S: Reassembly> Books<S> {
         let key = entry.key;
         self.events.disturb(key.client, key.server);
         if self.receivers.ends(&receiver_entry(entry, endpoint)) {
-            self.cycles.unsubscribed(key.server, key.service, key.client);
+            self.cycles
+                .unsubscribed(key.server, key.service, key.client);
         }
     }
 

@@ -15,7 +15,14 @@ use std::alloc::Global;
 use toml::Value;
 
 /// The keys that a rule may have.
-const RULE_KEYS: [&str; 6] = ["service", "method", "answer_ms", "cycle_ms", "allow", "at_most"];
+const RULE_KEYS: [&str; 6] = [
+    "service",
+    "method",
+    "answer_ms",
+    "cycle_ms",
+    "allow",
+    "at_most",
+];
 
 /// The rule that a table says.
 pub(crate) fn rule_in(alloc: Global, table: &Value) -> Result<Rule, KeyError>

@@ -121,7 +121,9 @@ pub(crate) fn moves(entry: &ReceiverEntry, standing: Option<SocketAddrV4>) -> bo
         → result ≡ moves entry.now.kind entry.now.endpoint lasting }
 {
     match (entry.kind, entry.endpoint, standing) {
-        (EntryKind::Subscribe, Some(endpoint), Some(standing)) => !is_same_key(&standing, &endpoint),
+        (EntryKind::Subscribe, Some(endpoint), Some(standing)) => !is_same_key(
+            &standing, &endpoint,
+        ),
         _ => false,
     }
 }

@@ -92,7 +92,8 @@ pub(crate) fn kind_of(finding: &Finding) -> Kind
         }
         Finding::EventSession(flow, session, shown) => kind_of_event(flow, *session, shown),
         Finding::Segment(..) => Kind::Segments,
-        Finding::EndpointsFull | Finding::WaysFull | Finding::ServersFull | Finding::CyclesFull => Kind::Full,
+        Finding::EndpointsFull | Finding::WaysFull | Finding::ServersFull | Finding::CyclesFull =>
+            Kind::Full,
     }
 }
 

@@ -13,8 +13,8 @@ ghost use Rattle.audit_rules.specs.declared.kind.Kind.TheVariants as kinds;
 
 use crate::audit::fields::{
     call_fields, error_fields, event_fields, event_session_fields, expected_field, header_fields,
-    instance_fields, interface_fields, last_field, late_fields, offer_fields, segment_fields, silent_fields,
-    session_field, subscription_fields,
+    instance_fields, interface_fields, last_field, late_fields, offer_fields, segment_fields,
+    session_field, silent_fields, subscription_fields,
 };
 use crate::heads::field_of;
 use audit_rules::Kind;
