@@ -230,6 +230,8 @@ class Draws:
                 lines.append(f"method = {self.one(*METHODS)}")
         if self.chance(0.5):
             lines.append(f"answer_ms = {self.one(1, 400, 1000, 5000)}")
+        if self.chance(0.6):
+            lines.append(f"cycle_ms = {self.one(1, 30, 100, 400, 1500)}")
         if self.chance(0.7):
             kinds = self.some.sample(KINDS, self.one(1, 3, 8))
             lines.append(f"allow = [{', '.join(f'{chr(34)}{kind}{chr(34)}' for kind in kinds)}]")

@@ -16,10 +16,10 @@ from seen import ACK, OFFER, SUBSCRIBE, Datagram, Seen, datagrams_of, looked_at,
 KINDS = ("malformed", "bad run", "no endpoint", "reboot", "sd session", "sd overtaken", "unanswered", "late", "error",
          "unasked", "repeated", "key reused", "interface", "not offered", "event repeated", "event overtaken", "event gap",
          "event unsubscribed", "segments", "segments missing", "offer expired", "offer moved", "nack",
-         "subscribe unanswered", "unasked ack", "unasked nack", "full")
+         "subscribe unanswered", "unasked ack", "unasked nack", "full", "silent")
 OF_SERVICES = ("bad run", "no endpoint", "offer expired", "offer moved", "nack", "subscribe unanswered", "unasked ack",
                "unasked nack")
-CALLS, SEGMENTS, OFFERS, SUBSCRIBES, GAPS = range(5)
+CALLS, SEGMENTS, OFFERS, SUBSCRIBES, GAPS, SILENCES = range(6)
 SHOWN = 3
 MOST_BEHIND = 64
 FIRST_GROUP = wire.address("224.0.0.0")
@@ -48,6 +48,11 @@ class Rules(NamedTuple):
     def answer_of(self, header):
         number = self.first(header.service, header.method)
         return self.answer if number is None else self.bench[number].get("answer_ms", self.answer)
+
+
+    def cycle_of(self, header):
+        number = self.first(header.service, header.method)
+        return None if number is None else self.bench[number].get("cycle_ms")
 
 
 class Finding(NamedTuple):
@@ -136,6 +141,7 @@ class Audit:
         self.find_subscribes()
         self.find_unsubscribed()
         self.find_gaps()
+        self.find_silent()
         self.findings.sort(key=lambda finding: finding.order)
 
     def head(self, finding):
@@ -199,12 +205,13 @@ class Audit:
         order = (seen.datagram.number, 1, seen.place, turn)
         self.findings.append(Finding(order, clock, seen.datagram, kind, kind + text))
 
-    def tell_due(self, opener, deadline, book, key, kind, text):
-        """Tells what fell due, before the first datagram after its opener whose moment has come to the deadline."""
+    def tell_due(self, opener, deadline, book, key, kind, text, number=None):
+        """Tells what fell due, before the first datagram after its opener whose moment has come to the deadline, or before
+        the one with this number."""
         if deadline > self.datagrams[-1].moment:
             return
         after = self.datagrams[opener.datagram.number:]
-        number = next((datagram.number for datagram in after if datagram.moment >= deadline), len(self.datagrams) + 1)
+        number = number or next((datagram.number for datagram in after if datagram.moment >= deadline), len(self.datagrams) + 1)
         clock = f"{deadline // 1000}.{deadline % 1000:03d}000000"
         self.findings.append(Finding((number, 0, deadline, book, key), clock, opener.datagram, kind, kind + text))
 
@@ -571,6 +578,66 @@ class Audit:
         return any(last.moment < moment <= seen.moment for moment in passed if moment is not None)
 
 
+    # ---- Events that come in cycles
+
+    def find_silent(self):
+        """The events to one endpoint that did not come for three cycles, while one was subscribed to them."""
+        flows, standings = defaultdict(list), self.standings()
+        for seen in self.all_seen("message"):
+            header = seen.value[0]
+            is_event = header.kind == wire.NOTIFICATION and seen.receiver < FIRST_GROUP
+            if is_event and self.rules.cycle_of(header) and any(goes_by(standing, seen) for standing in standings):
+                flows[seen.datagram.source, header.service, header.method, seen.datagram.destination].append(seen)
+        for key, flow in flows.items():
+            for seen, later in zip(flow, flow[1:] + [None]):
+                self.judge_watch(key, seen, later, standings)
+
+    def judge_watch(self, key, seen, later, standings):
+        """Tells an event whose next one did not come in time, unless something ended its watch before."""
+        deadline = seen.moment + 3 * self.rules.cycle_of(seen.value[0])
+        number = self.asked_at(seen, deadline, standings)
+        came = later is not None and (number is None or later.datagram.number < number)
+        if number is not None and not came and not self.is_ended(seen, number, standings):
+            text = f" {deadline - seen.moment} ms {event_text(seen.value[0])}"
+            self.tell_due(seen, deadline, SILENCES, key, "silent", text, number)
+
+    def asked_at(self, seen, deadline, standings):
+        """The number of the datagram before which it is told: none where a subscription has expired that was not dropped."""
+        before = seen.datagram.moment
+        for datagram in self.datagrams[seen.datagram.number:]:
+            if datagram.moment >= deadline and not any(expires(standing, before, deadline) for standing in standings):
+                return datagram.number
+            before = datagram.moment
+        return len(self.datagrams) + 1 if deadline <= before else None
+
+    def is_ended(self, seen, number, standings):
+        """Whether something ended the watch of an event before this datagram."""
+        between = [other for other in self.all_seen("entry") + self.reboots
+                   if seen.place < other.place and other.datagram.number < number]
+        ended = any(self.ends(other, seen, standings) for other in between)
+        return ended or any(self.expired(standing, seen, number) for standing in standings)
+
+    def ends(self, other, seen, standings):
+        """Whether something ends the watch of an event: a reboot, a StopOffer, or an entry by which its subscription ends."""
+        service, ends = seen.value[0].service, (seen.receiver, seen.sender)
+        if other.what != "entry":
+            return other.sender in ends
+        entry = other.value
+        if entry.service != service or entry.kind not in (OFFER, SUBSCRIBE, ACK):
+            return False
+        if entry.kind == OFFER:
+            return is_stop(entry) and other.sender == seen.sender
+        moved = any(standing.end == other.place and standing.endpoint != entry.endpoint for standing in standings)
+        return sides(other) == ends and (not entry.ttl or asks(entry) and entry.endpoint is not None and moved)
+
+    def expired(self, standing, seen, number):
+        """Whether a subscription of the receiver to the service expired since an event, and was dropped before a datagram."""
+        if standing.passed is None or standing.key[:3] != (seen.receiver, seen.sender, seen.value[0].service):
+            return False
+        dropped = next((datagram.number for datagram in self.datagrams if datagram.moment >= standing.passed), sys.maxsize)
+        return seen.datagram.number < dropped < number
+
+
 # ---- Questions about single things
 
 def is_request(seen):
@@ -676,6 +743,11 @@ def goes_by(standing, seen):
     is_to = (server, service) == (seen.sender, seen.value[0].service) and standing.endpoint == seen.datagram.destination
     stands = standing.begin < seen.place < standing.end
     return is_to and stands and (standing.passed is None or seen.moment < standing.passed)
+
+
+def expires(standing, after, by):
+    """Whether a subscription expires after a moment, and by another."""
+    return standing.passed is not None and after < standing.passed <= by
 
 
 # ---- What could not be judged

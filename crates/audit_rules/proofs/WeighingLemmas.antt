@@ -83,11 +83,11 @@ all_bounded rules place (one ∷ others) w is within =
     sum_by-cons (λ (n : NamedFinding). cond (is_counted_at place (weight_by rules n.kind n.service n.method)) 1 0) one others in
     omega (arith, rest, here, sum)
 
-pub bounded_is : (rules : List Rule) (came : List NamedFinding) (place : ℕ) → place < length rules * 27
+pub bounded_is : (rules : List Rule) (came : List NamedFinding) (place : ℕ) → place < length rules * 28
     → slice_index (all_weighed came (weights_begun rules)).bounded place ≡ count_of rules (is_counted_at place) came
 bounded_is rules came place within =
-    let long : place < length (replicate (length rules * 27) 0) = omega (arith, within, length-replicate {A = ℕ} (length rules * 27) 0) in
-    let zero : slice_index (replicate (length rules * 27) 0) place ≡ 0 = get_or-replicate {A = ℕ} (length rules * 27) place 0 0 within in
-    let all : slice_index (all_weighed came (weights_begun rules)).bounded place ≡ count_of rules (is_counted_at place) came + slice_index (replicate (length rules * 27) 0) place =
+    let long : place < length (replicate (length rules * 28) 0) = omega (arith, within, length-replicate {A = ℕ} (length rules * 28) 0) in
+    let zero : slice_index (replicate (length rules * 28) 0) place ≡ 0 = get_or-replicate {A = ℕ} (length rules * 28) place 0 0 within in
+    let all : slice_index (all_weighed came (weights_begun rules)).bounded place ≡ count_of rules (is_counted_at place) came + slice_index (replicate (length rules * 28) 0) place =
     all_bounded rules place came (weights_begun rules) refl long in
     omega (arith, all, zero)

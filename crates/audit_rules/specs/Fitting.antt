@@ -27,10 +27,15 @@ abbrev pub answer_ms_by : List Rule → ℕ → ℕ → Option ℕ
 answer_ms_by rules service method =
     option_and_then (λ n. option_and_then (λ (r : Rule). r.answer_ms) (slice_get rules n)) (first_that_fits (Some service) (Some method) rules)
 
+-- how long after an event the next one is to come by the first rule that is about it, if that says so
+abbrev pub cycle_ms_by : List Rule → ℕ → ℕ → Option ℕ
+cycle_ms_by rules service event =
+    option_and_then (λ n. option_and_then (λ (r : Rule). r.cycle_ms) (slice_get rules n)) (first_that_fits (Some service) (Some event) rules)
+
 -- what a finding of a kind weighs that the rule with this number treats so: where only so many of its kind may come, it is counted
 -- at a place of the rule and the kind
 abbrev pub place_of : ℕ → ℕ → ℕ
-place_of number kind = number * 27 + kind
+place_of number kind = number * 28 + kind
 
 abbrev pub weight_in : ℕ → ℕ → Treatment → Weight
 weight_in number kind treatments.Counts = weights.Counts

@@ -1,7 +1,7 @@
 -- The kinds of findings, as the summary of an audit names them.
 use Rattle.std.specs.Prelude.{ℕ, ◌==◌, if◌then◌else◌, List, [], ◌∷◌, map, codes}
 use Rattle.audit_rules.specs.declared.kind.Kind.{Kind}
-use Rattle.audit_rules.specs.declared.kind.Kind.TheVariants.{Malformed, BadRun, NoEndpoint, Reboot, SdSession, SdOvertaken, Unanswered, Late, Error, Unasked, Repeated, KeyReused, Interface, NotOffered, EventRepeated, EventOvertaken, EventGap, EventUnsubscribed, Segments, SegmentsMissing, OfferExpired, OfferMoved, Nack, SubscribeUnanswered, UnaskedAck, UnaskedNack, Full}
+use Rattle.audit_rules.specs.declared.kind.Kind.TheVariants.{Malformed, BadRun, NoEndpoint, Reboot, SdSession, SdOvertaken, Unanswered, Late, Error, Unasked, Repeated, KeyReused, Interface, NotOffered, EventRepeated, EventOvertaken, EventGap, EventUnsubscribed, Segments, SegmentsMissing, OfferExpired, OfferMoved, Nack, SubscribeUnanswered, UnaskedAck, UnaskedNack, Full, Silent}
 
 -- the words of a kind
 abbrev pub kind_words : Kind → List ℕ
@@ -32,6 +32,7 @@ kind_words SubscribeUnanswered = codes "subscribe unanswered"
 kind_words UnaskedAck = codes "unasked ack"
 kind_words UnaskedNack = codes "unasked nack"
 kind_words Full = codes "full"
+kind_words Silent = codes "silent"
 
 -- its name in an object: its words, with `-` between them
 abbrev pub kind_name : Kind → List ℕ
@@ -41,7 +42,7 @@ kind_name kind = map (λ b. if b == 0x20 then 0x2D else b) (kind_words kind)
 unfoldable pub all_kinds : List Kind
 all_kinds =
     Malformed ∷ BadRun ∷ NoEndpoint ∷ Reboot ∷ SdSession ∷ SdOvertaken ∷ Unanswered ∷ Late ∷ Error ∷ Unasked ∷ Repeated ∷ KeyReused ∷ Interface ∷ NotOffered ∷ EventRepeated
-    ∷ EventOvertaken ∷ EventGap ∷ EventUnsubscribed ∷ Segments ∷ SegmentsMissing ∷ OfferExpired ∷ OfferMoved ∷ Nack ∷ SubscribeUnanswered ∷ UnaskedAck ∷ UnaskedNack ∷ Full ∷ []
+    ∷ EventOvertaken ∷ EventGap ∷ EventUnsubscribed ∷ Segments ∷ SegmentsMissing ∷ OfferExpired ∷ OfferMoved ∷ Nack ∷ SubscribeUnanswered ∷ UnaskedAck ∷ UnaskedNack ∷ Full ∷ Silent ∷ []
 
 -- the number of a kind in that order, by which kinds are told apart
 abbrev pub kind_number : Kind → ℕ
@@ -72,3 +73,4 @@ kind_number SubscribeUnanswered = 23
 kind_number UnaskedAck = 24
 kind_number UnaskedNack = 25
 kind_number Full = 26
+kind_number Silent = 27

@@ -29,10 +29,10 @@ coded_treatment = code_by TreatmentCode (coded⊎ coded_bool coded_ℕ) code_of 
 
 abbrev pub coded_rule : Coded Rule
 coded_rule =
-    code_by ((Option ℕ × Option ℕ) × (Option ℕ × List Treatment))
-    (coded× (coded× (coded_option coded_ℕ) (coded_option coded_ℕ)) (coded× (coded_option coded_ℕ) (coded_list coded_treatment)))
-    (λ r. ((r.service, r.method), (r.answer_ms, r.treatments)))
-    (λ p. record { service = p.0.0; method = p.0.1; answer_ms = p.1.0; treatments = p.1.1 }) (λ _. refl)
+    code_by ((Option ℕ × Option ℕ) × ((Option ℕ × Option ℕ) × List Treatment))
+    (coded× (coded× (coded_option coded_ℕ) (coded_option coded_ℕ)) (coded× (coded× (coded_option coded_ℕ) (coded_option coded_ℕ)) (coded_list coded_treatment)))
+    (λ r. ((r.service, r.method), ((r.answer_ms, r.cycle_ms), r.treatments)))
+    (λ p. record { service = p.0.0; method = p.0.1; answer_ms = p.1.0.0; cycle_ms = p.1.0.1; treatments = p.1.1 }) (λ _. refl)
 
 abbrev pub coded_rules : Coded (List Rule)
 coded_rules = coded_list coded_rule

@@ -8,11 +8,11 @@ use Rattle.audit_rules.specs.Weighing.{Weights, weighed}
 
 -- a rule of a service and a method, by which `late` is allowed and at most three of `event gap` may come
 abbrev pub lenient : Option ℕ → Option ℕ → Rule
-lenient service method = record { service = service; method = method; answer_ms = Some 5000; treatments = replicate 7 Counts ++ Allowed ∷ replicate 8 Counts ++ AtMost 3 ∷ replicate 10 Counts }
+lenient service method = record { service = service; method = method; answer_ms = Some 5000; cycle_ms = Some 100; treatments = replicate 7 Counts ++ Allowed ∷ replicate 8 Counts ++ AtMost 3 ∷ replicate 11 Counts }
 
 -- a rule of a service and a method, by which each finding counts
 abbrev pub strict : Option ℕ → Option ℕ → Rule
-strict service method = record { service = service; method = method; answer_ms = None; treatments = replicate 27 Counts }
+strict service method = record { service = service; method = method; answer_ms = None; cycle_ms = None; treatments = replicate 28 Counts }
 
 -- for method 0421 of service 1234 the strict one; for the service the lenient one
 abbrev pub of_service : List Rule

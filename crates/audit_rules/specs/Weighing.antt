@@ -21,7 +21,7 @@ pub record Weights : Type 0 where
 
 -- before any came
 abbrev pub weights_begun : List Rule → Weights
-weights_begun rules = record { rules = rules; counting = 0; allowed = 0; bounded = replicate (length rules * 27) 0 }
+weights_begun rules = record { rules = rules; counting = 0; allowed = 0; bounded = replicate (length rules * 28) 0 }
 
 -- one more came that weighs so
 abbrev pub weighed_as : Weight → Weights → Weights

@@ -59,10 +59,12 @@ pub enum Kind {
     UnaskedNack,
     /// A table is full.
     Full,
+    /// An event did not come for three cycles.
+    Silent,
 }
 
 /// How many kinds there are.
-pub const KIND_COUNT: usize = 27;
+pub const KIND_COUNT: usize = 28;
 
 /// All kinds, in the order of the summary.
 #[tactic(auto, unfolding(crate::specs::Kinds::all_kinds))]
@@ -97,6 +99,7 @@ pub fn kinds() -> [Kind; KIND_COUNT]
         Kind::UnaskedAck,
         Kind::UnaskedNack,
         Kind::Full,
+        Kind::Silent,
     ]
 }
 
@@ -133,6 +136,7 @@ impl Kind {
             Kind::UnaskedAck => "unasked ack",
             Kind::UnaskedNack => "unasked nack",
             Kind::Full => "full",
+            Kind::Silent => "silent",
         }
     }
 
@@ -168,6 +172,7 @@ impl Kind {
             Kind::UnaskedAck => "unasked-ack",
             Kind::UnaskedNack => "unasked-nack",
             Kind::Full => "full",
+            Kind::Silent => "silent",
         }
     }
 

@@ -1,7 +1,7 @@
 //! Laws of the definitions behind the contracts, by example. Each is the contract of a function that does
 //! nothing.
 ghost use Rattle.std.specs.Prelude.{◌≡◌, ◌<◌, ◌*◌, ℕ, List, [], ◌∷◌, length, slice_index, true, false, None, Some};
-ghost use Rattle.audit_rules.specs.Fitting.{answer_ms_by, first_that_fits, weight_by};
+ghost use Rattle.audit_rules.specs.Fitting.{answer_ms_by, cycle_ms_by, first_that_fits, weight_by};
 ghost use Rattle.audit_rules.specs.Kinds.{kind_number};
 ghost use Rattle.audit_rules.specs.Scenes.{came, lenient, of_service, strict};
 ghost use Rattle.audit_rules.specs.Weighing.{NamedFinding, all_weighed, count_of, does_count, exceeded, fails};
@@ -26,7 +26,7 @@ pub fn the_first_rule_that_fits_counts()
 /// What findings weigh, by example: by the first rule that fits, though a later one allows them.
 pub fn findings_weigh_by_the_first_rule()
     ensures allowed { weight_by of_service (kind_number Late) (Some 0x1234) (Some 0x0422) ≡ Allowed }
-    ensures bounded { weight_by of_service (kind_number EventGap) (Some 0x1234) (Some 0x0422) ≡ Bounded 43 }
+    ensures bounded { weight_by of_service (kind_number EventGap) (Some 0x1234) (Some 0x0422) ≡ Bounded 44 }
     ensures other_kind { weight_by of_service (kind_number Unanswered) (Some 0x1234) (Some 0x0422) ≡ Counts }
     ensures strict_first { weight_by of_service (kind_number Late) (Some 0x1234) (Some 0x0421) ≡ Counts }
     ensures no_rule { weight_by of_service (kind_number Late) (Some 0x1235) (Some 0x0422) ≡ Counts }
@@ -38,6 +38,13 @@ pub fn answers_may_take_so_long()
     ensures said { answer_ms_by of_service 0x1234 0x0422 ≡ Some 5000 }
     ensures unsaid { answer_ms_by of_service 0x1234 0x0421 ≡ None }
     ensures no_rule { answer_ms_by of_service 0x1235 0x0422 ≡ None }
+{}
+
+/// How long after an event the next one is to come, by example: as the first rule that fits says.
+pub fn events_come_so_often()
+    ensures said { cycle_ms_by of_service 0x1234 0x0422 ≡ Some 100 }
+    ensures unsaid { cycle_ms_by of_service 0x1234 0x0421 ≡ None }
+    ensures no_rule { cycle_ms_by of_service 0x1235 0x0422 ≡ None }
 {}
 
 /// What fails, by example: a finding that counts, and more of a kind than may come. As many as may come do not, nor
@@ -66,6 +73,6 @@ pub fn what_came_is_counted()
         → (all_weighed came (weights_begun rules)).counting ≡ count_of rules does_count came }
     ensures allowed { (rules : List Rule) (came : List NamedFinding)
         → (all_weighed came (weights_begun rules)).allowed ≡ count_of rules is_allowed came }
-    ensures bounded { (rules : List Rule) (came : List NamedFinding) (place : ℕ) → place < length rules * 27
+    ensures bounded { (rules : List Rule) (came : List NamedFinding) (place : ℕ) → place < length rules * 28
         → slice_index (all_weighed came (weights_begun rules)).bounded place ≡ count_of rules (is_counted_at place) came }
 {}

@@ -24,6 +24,8 @@ pub struct Rule {
     pub method: Option<u16>,
     /// How many milliseconds an answer to a REQUEST may take, if the rule says so.
     pub answer_ms: Option<u32>,
+    /// How many milliseconds after an event the next one is to come, if the rule says so.
+    pub cycle_ms: Option<u32>,
     /// How findings of each kind are taken, by the number of the kind.
     pub treatments: [Treatment; KIND_COUNT],
 }

@@ -1,6 +1,6 @@
 //! The rules of a bench.
 ghost use Rattle.std.specs.Prelude.{◌≡◌, ◌<◌, ◌≤◌, IfNone, IfOk, IfSome, [], length};
-ghost use Rattle.audit_rules.specs.Fitting.{answer_ms_by, first_that_fits, weight_by, weight_in};
+ghost use Rattle.audit_rules.specs.Fitting.{answer_ms_by, cycle_ms_by, first_that_fits, weight_by, weight_in};
 
 use crate::kind::KIND_COUNT;
 use crate::rule::{Rule, Treatment};
@@ -17,7 +17,7 @@ pub enum Weight {
     Counts,
     /// It is allowed.
     Allowed,
-    /// A rule allows only so many of its kind. They are counted at this place: 27 times the number of the rule,
+    /// A rule allows only so many of its kind. They are counted at this place: 28 times the number of the rule,
     /// from 0, and the number of the kind.
     Bounded(usize),
 }
@@ -94,6 +94,14 @@ impl Rules {
     {
         let number = self.first(Some(service), Some(method))?;
         self.rules[number].answer_ms
+    }
+
+    /// How many milliseconds after such an event the next one is to come, if the rules say so.
+    pub fn cycle_ms(&self, service: u16, event: u16) -> Option<u32>
+        ensures { result ≡ cycle_ms_by self.now service event }
+    {
+        let number = self.first(Some(service), Some(event))?;
+        self.rules[number].cycle_ms
     }
 
     /// What a finding of the kind with this number weighs that names this service and this method, or none.

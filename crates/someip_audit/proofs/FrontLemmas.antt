@@ -1,5 +1,5 @@
 -- What was told stays at the front of what is told.
-use Rattle.std.proofs.Common.{◌≡◌, ℕ, ◌+◌, ◌==◌, ◌<◌, Bool, true, false, List, [], ◌∷◌, ◌++◌, length, get_or, drop, map, if◌then◌else◌, Option, None, Some, refl, ap, sym, subst, ◌∙◌}
+use Rattle.std.proofs.Common.{◌≡◌, ℕ, ◌+◌, ◌==◌, ◌<◌, ◌&&◌, Bool, true, false, List, [], ◌∷◌, ◌++◌, length, get_or, drop, map, if◌then◌else◌, Option, None, Some, refl, ap, sym, subst, ◌∙◌}
 use Rattle.std.proofs.lemmas.List.{drop_more}
 use Rattle.std.specs.Prelude.{Result, Ok, Err, max, option_map}
 use Rattle.std.specs.Result.{OnErr}
@@ -32,7 +32,9 @@ use Rattle.someip_wire.specs.Reading.{items_of}
 use Rattle.someip_audit.specs.Audits.{Seen, datagram_shown, seen_work, without_passed}
 use Rattle.someip_audit.specs.WatchedEndpoints.{is_at_discovery, is_looked_at}
 use Rattle.someip_audit.specs.AnyShown.{any_shown, in_datagram, is_sd, item_len, item_shown, items_shown, payload_shown}
-use Rattle.someip_audit.specs.MessageShown.{call_shown, code_shown, delivery, event_flow, event_seen, event_shown, flow_shown, has_no_tp_header, is_event, is_of_call, judged_shown, message_shown, piece_shown, rest_shown, segment_at, segment_held, segment_shown, segment_told, told_of_code, told_of_way, way_of, way_shown, whole_shown, whole_taken}
+use Rattle.audit_traffic.specs.declared.events.flow.EventFlow.{EventFlow}
+use Rattle.someip_audit.specs.AnswerTimes.{cycle_ms_of}
+use Rattle.someip_audit.specs.MessageShown.{call_shown, code_shown, cycle_shown, delivery, event_flow, event_seen, event_shown, flow_shown, has_no_tp_header, is_event, is_of_call, judged_shown, message_shown, piece_shown, rest_shown, segment_at, segment_held, segment_shown, segment_told, told_of_code, told_of_way, way_of, way_shown, whole_shown, whole_taken, watch_shown}
 use Rattle.audit_sd.specs.declared.offers.entry.OfferEntry.{OfferEntry}
 use Rattle.audit_sd.specs.declared.receivers.entry.WithdrawnOffer.{WithdrawnOffer}
 use Rattle.audit_sd.specs.declared.subscriptions.entry.SubscribeEntry.{SubscribeEntry}
@@ -93,7 +95,7 @@ receiver_front now entry work = front_told _ work.told
 
 pub group_taken_front : (now : ℕ) (entry : SubscribeEntry) (endpoint : Option SocketAddrV4) (work : Work) → IsFront work.told (group_taken now entry endpoint work).told
 group_taken_front now entry endpoint work =
-    let begun : Work = changed entry.key work in
+    let begun : Work = changed entry endpoint work in
     front_further work.told (subscribe_shown now entry begun).told _ (subscribe_front now entry begun) (receiver_front now (receiver_entry entry endpoint) (subscribe_shown now entry begun))
 
 pub group_front : (now : ℕ) (entry : SubscribeEntry) (endpoint : Option SocketAddrV4) (work : Work) → IsFront work.told (group_shown now entry endpoint work).told
@@ -163,10 +165,10 @@ front_moved before told held work is front = rw (ap (λ (w : Work). w.told) is) 
 
 -- a subscription changed, its entry was shown as to its answer, and nothing more
 pub group_taken_begun : (now : ℕ) (entry : SubscribeEntry) (endpoint : Option SocketAddrV4) (held started mid : Held) (told more new : List Finding)
-    → started ≡ (changed entry.key (working held [])).held → working mid more ≡ subscribe_shown now entry (working started told) → new ≡ more
+    → started ≡ (changed entry endpoint (working held [])).held → working mid more ≡ subscribe_shown now entry (working started told) → new ≡ more
     → IsBegun told new (group_taken now entry endpoint (working held told)).told
 group_taken_begun now entry endpoint held started mid told more new starts is same =
-    let begun : Work = changed entry.key (working held told) in
+    let begun : Work = changed entry endpoint (working held told) in
     let at : more ≡ (subscribe_shown now entry begun).told = ap (λ (w : Work). w.told) (is ∙ ap (λ h. subscribe_shown now entry (working h told)) starts) in
     rw (same, at) (subscribe_front now entry begun, receiver_front now (receiver_entry entry endpoint) (subscribe_shown now entry begun))
 
@@ -242,6 +244,17 @@ flow_front now origin header work = cases (is_notification header.kind)
     cases true = front_told _ work.told
     cases false = front_same work.told
 
+watch_front : (now : ℕ) (origin : Origin) (flow : EventFlow) (cycle_ms : Option ℕ) (work : Work) → IsFront work.told (watch_shown now origin flow cycle_ms work).told
+watch_front now origin flow None work = front_same work.told
+watch_front now origin flow (Some cycle_ms) work = front_told _ work.told
+
+cycle_front : (now : ℕ) (origin : Origin) (header : Header) (work : Work) → IsFront work.told (cycle_shown now origin header work).told
+cycle_front now origin header work = cases (is_event origin header && receivers.is_subscribed (delivery origin header) work.held.receivers.standing)
+  where
+    cases : (b : Bool) → IsFront work.told (if b then watch_shown now origin (event_flow origin header) (cycle_ms_of work.held.times header.service header.method) work else work).told
+    cases true = watch_front now origin (event_flow origin header) (cycle_ms_of work.held.times header.service header.method) work
+    cases false = front_same work.told
+
 -- its call was shown, and what its return code shows
 coded_front : (now : ℕ) (origin : Origin) (header : Header) (payload : List ℕ) (work : Work) → IsFront work.told (code_shown header (call_shown now origin header payload work)).told
 coded_front now origin header payload work =
@@ -252,10 +265,15 @@ coded_front now origin header payload work =
 judged_front : (now : ℕ) (origin : Origin) (header : Header) (work : Work) → IsFront work.told (judged_shown now origin header work).told
 judged_front now origin header work = front_told _ work.told
 
-late_front : (now : ℕ) (origin : Origin) (header : Header) (work : Work) → IsFront work.told (flow_shown now origin header (event_shown now origin header work)).told
+last_front : (now : ℕ) (origin : Origin) (header : Header) (work : Work) → IsFront work.told (cycle_shown now origin header (flow_shown now origin header work)).told
+last_front now origin header work =
+    let flowed : Work = flow_shown now origin header work in
+    front_further work.told flowed.told _ (flow_front now origin header work) (cycle_front now origin header flowed)
+
+late_front : (now : ℕ) (origin : Origin) (header : Header) (work : Work) → IsFront work.told (cycle_shown now origin header (flow_shown now origin header (event_shown now origin header work))).told
 late_front now origin header work =
     let heard : Work = event_shown now origin header work in
-    front_further work.told heard.told _ (event_front now origin header work) (flow_front now origin header heard)
+    front_further work.told heard.told _ (event_front now origin header work) (last_front now origin header heard)
 
 pub rest_front : (now : ℕ) (origin : Origin) (header : Header) (work : Work) → IsFront work.told (rest_shown now origin header work).told
 rest_front now origin header work =
@@ -372,7 +390,23 @@ heard_begun now origin header held told mid late more most new is hears same =
     let judged : Work = judged_shown now origin header (working held told) in
     let heard : Work = event_shown now origin header judged in
     let at : most ≡ heard.told = ap (λ (w : Work). w.told) (hears ∙ ap (event_shown now origin header) is) in
-    rw (same, at) (front_further told judged.told _ (judged_front now origin header (working held told)) (event_front now origin header judged), flow_front now origin header heard)
+    rw (same, at) (front_further told judged.told _ (judged_front now origin header (working held told)) (event_front now origin header judged), last_front now origin header heard)
+
+-- and what the event shows by its session, and nothing more
+pub flowed_begun : (now : ℕ) (origin : Origin) (header : Header) (held : Held) (told : List Finding) (mid late last : Held) (more most much new : List Finding)
+    → working mid more ≡ judged_shown now origin header (working held told) → working late most ≡ event_shown now origin header (working mid more)
+    → working last much ≡ flow_shown now origin header (working late most) → new ≡ much
+    → IsBegun told new (rest_shown now origin header (working held told)).told
+flowed_begun now origin header held told mid late last more most much new is hears flows same =
+    let judged : Work = judged_shown now origin header (working held told) in
+    let heard : Work = event_shown now origin header judged in
+    let flowed : Work = flow_shown now origin header heard in
+    let at : much ≡ flowed.told = ap (λ (w : Work). w.told) (flows ∙ ap (flow_shown now origin header) (hears ∙ ap (event_shown now origin header) is)) in
+    rw (same, at) (
+      front_further told judged.told _ (judged_front now origin header (working held told))
+          (front_further judged.told heard.told _ (event_front now origin header judged) (flow_front now origin header heard)),
+      cycle_front now origin header flowed,
+    )
 
 -- an Offer was shown, as to the offers, and nothing more
 pub offered_begun : (now : ℕ) (entry : OfferEntry) (held : Held) (told : List Finding) (mid : Held) (more new : List Finding)

@@ -27,10 +27,13 @@ use Rattle.audit_sd.specs.declared.offers.entry.Standing.{Standing}
 use Rattle.audit_sd.specs.declared.offers.key.OfferKey.{OfferKey}
 use Rattle.audit_sd.specs.offers.OfferTables.{ended_by}
 use Rattle.audit_traffic.specs.segments.SegmentBooks as segments
+use Rattle.audit_sd.specs.receivers.ReceiverTables as receivers
+use Rattle.audit_traffic.specs.declared.events.flow.EventFlow.{EventFlow}
+use Rattle.someip_audit.specs.AnswerTimes.{cycle_ms_of}
 use Rattle.someip_audit.specs.AnyShown.{is_sd, item_len, item_shown, items_shown, payload_shown}
 use Rattle.someip_audit.specs.BooksHeld.{Held}
 use Rattle.someip_audit.specs.Learning.{learnt_of, learnt_of_item, learnt_of_items, learnt_of_payload, named_by, once_named_by}
-use Rattle.someip_audit.specs.MessageShown.{call_shown, code_shown, event_shown, flow_shown, has_no_tp_header, is_event, is_of_call, judged_shown, message_shown, piece_shown, segment_at, segment_held, segment_shown, segment_told, whole_shown, whole_taken}
+use Rattle.someip_audit.specs.MessageShown.{call_shown, code_shown, cycle_shown, delivery, event_flow, event_shown, flow_shown, has_no_tp_header, is_event, is_of_call, judged_shown, message_shown, piece_shown, segment_at, segment_held, segment_shown, segment_told, watch_shown, whole_shown, whole_taken}
 use Rattle.someip_audit.specs.SdEntries.{named_endpoint, offer_entry, offers_by, sd_message, withdrawn_offer}
 use Rattle.someip_audit.specs.SdShown.{Work, after_session, endpoint_shown, entries_shown, entry_shown, head_of, head_shown, offer_noted, offer_shown, offered_shown, options_shown, server_ended, server_shown, service_shown, session_shown, stop_shown, taken_shown}
 use Rattle.someip_audit.specs.WatchedEndpoints.{Watch, is_at_discovery}
@@ -52,11 +55,20 @@ event_same now origin header work = if_same (is_event origin header) _ work (lea
 flow_same : (now : ℕ) (origin : Origin) (header : Header) (work : Work) → learnt (flow_shown now origin header work) ≡ learnt work
 flow_same now origin header work = if_same (is_notification header.kind) _ work (learnt work) refl refl
 
+watch_same : (now : ℕ) (origin : Origin) (flow : EventFlow) (cycle_ms : Option ℕ) (work : Work) → learnt (watch_shown now origin flow cycle_ms work) ≡ learnt work
+watch_same now origin flow None work = refl
+watch_same now origin flow (Some cycle_ms) work = refl
+
+cycle_same : (now : ℕ) (origin : Origin) (header : Header) (work : Work) → learnt (cycle_shown now origin header work) ≡ learnt work
+cycle_same now origin header work =
+    if_same (is_event origin header && receivers.is_subscribed (delivery origin header) work.held.receivers.standing) _ work (learnt work)
+    (watch_same now origin (event_flow origin header) (cycle_ms_of work.held.times header.service header.method) work) refl
+
 whole_same : (now : ℕ) (origin : Origin) (header : Header) (payload : List ℕ) (work : Work) → learnt (whole_shown now origin header payload work) ≡ learnt work
 whole_same now origin header payload work =
     let coded : Work = code_shown header (call_shown now origin header payload work) in
     let judged : Work = judged_shown now origin header coded in
-    flow_same now origin header (event_shown now origin header judged) ∙ event_same now origin header judged
+    cycle_same now origin header (flow_shown now origin header (event_shown now origin header judged)) ∙ flow_same now origin header (event_shown now origin header judged) ∙ event_same now origin header judged
 
 whole_taken_same : (now : ℕ) (origin : Origin) (header : Header) (payload : List ℕ) (work : Work) → learnt (whole_taken now origin header payload work) ≡ learnt work
 unfolding whole_taken

@@ -6,3 +6,4 @@ pub mod ExpiryLemmas
 pub mod NextLemmas
 pub mod LearningLemmas
 pub mod about_groups
+pub mod SilenceLemmas

@@ -18,6 +18,10 @@ use Rattle.audit_traffic.specs.declared.segments.waiting.Waiting.{Waiting}
 use Rattle.someip_reassembly.specs.declared.key.ReassemblyKey.{ReassemblyKey}
 use Rattle.audit_traffic.specs.declared.gaps.awaited.Awaited.{Awaited}
 use Rattle.audit_traffic.specs.declared.gaps.finding.LostEvent.{LostEvent}
+use Rattle.audit_traffic.specs.declared.cycles.finding.SilentEvent.{SilentEvent}
+use Rattle.audit_traffic.specs.declared.cycles.watch.Watch.{Watch}
+use Rattle.audit_traffic.specs.declared.events.flow.EventFlow.{EventFlow}
+use Rattle.audit_traffic.specs.events.FlowOrder.{exact_flows, flows_total}
 use Rattle.audit_traffic.specs.declared.gaps.key.MissingEvent.{MissingEvent}
 use Rattle.audit_traffic.specs.gaps.MissingOrder.{exact_missing, missing_total}
 use Rattle.audit_sd.specs.declared.offers.finding.Expired.{Expired}
@@ -135,6 +139,18 @@ lost_one held a b x y key =
     let waits : awaited_of a ≡ awaited_of b = one_value (awaited_of a) (awaited_of b) (finite.get held.events.gaps.waiting b.key) (sym (ap (finite.get held.events.gaps.waiting) key) ∙ x) y in
     ap (λ k. lost_of k (awaited_of a)) key ∙ ap (lost_of b.key) waits
 
+watch_of : SilentEvent → Watch
+watch_of told = record { silent_ms = told.silent_ms; until = told.at; numbers = told.numbers }
+
+silent_of : EventFlow → Watch → SilentEvent
+silent_of flow watch = record { at = watch.until; flow = flow; silent_ms = watch.silent_ms; numbers = watch.numbers }
+
+silent_one : (held : Held) (a b : SilentEvent) → IsAwaited held (due.Silent a) → IsAwaited held (due.Silent b) → a.flow ≡ b.flow → a ≡ b
+unfolding watch_of silent_of
+silent_one held a b x y key =
+    let watches : watch_of a ≡ watch_of b = one_value (watch_of a) (watch_of b) (finite.get held.cycles.watched b.flow) (sym (ap (finite.get held.cycles.watched) key) ∙ x.0) y.0 in
+    ap (λ k. silent_of k (watch_of a)) key ∙ ap (silent_of b.flow) watches
+
 one_next : (held : Held) (a b : FellDue) → IsAwaited held a → IsAwaited held b → is_le (fell_cmp a b) ≡ true → is_le (fell_cmp b a) ≡ true → a ≡ b
 one_next held (due.Unanswered a) (due.Unanswered b) x y ab ba =
     ap due.Unanswered
@@ -156,6 +172,9 @@ one_next held (due.EventLost a) (due.EventLost b) x y ab ba =
     ap due.EventLost
     (lost_one held a b x y
     (one_key missing_total exact_missing a.key b.key (by_key (due.EventLost a) (due.EventLost b) ab ba) (by_key (due.EventLost b) (due.EventLost a) ba ab)))
+one_next held (due.Silent a) (due.Silent b) x y ab ba =
+    ap due.Silent
+    (silent_one held a b x y (one_key flows_total exact_flows a.flow b.flow (by_key (due.Silent a) (due.Silent b) ab ba) (by_key (due.Silent b) (due.Silent a) ba ab)))
 one_next held a b x y ab ba = let books = same_book a b ab ba in absurd (omega (arith, books))
 
 next_is_one : (now : ℕ) (state : AuditState) (a b : FellDue) → IsNext now state a → IsNext now state b → a ≡ b

@@ -8,6 +8,7 @@ use Rattle.someip_tables.specs.declared.hashed.origin.Origin.{Origin}
 use Rattle.audit_sd.specs.declared.subscriptions.key.SubscriptionKey.{SubscriptionKey}
 use Rattle.audit_rules.specs.declared.Rule.{Rule}
 use Rattle.audit_sd.specs.receivers.ReceiverTables.{without_expired}
+use Rattle.audit_traffic.specs.cycles.CycleTables.{Cycles, without_subscribed}
 use Rattle.audit_traffic.specs.sequence.Sequences.{Sequence, after_change}
 use Rattle.someip_audit.specs.declared.fell_due.FellDue.{FellDue}
 use Rattle.someip_audit.specs.declared.finding.Finding.{Finding}
@@ -33,10 +34,15 @@ abbrev pub each_disturbed : List SubscriptionKey → Sequence → Sequence
 each_disturbed [] events = events
 each_disturbed (key ∷ keys) events = each_disturbed keys (after_change key.client key.server events)
 
--- the subscriptions that have expired end, and the flows between the client and the server of each are disturbed
+-- the events of each of these subscriptions are watched no more
+abbrev pub each_unwatched : List SubscriptionKey → Cycles → Cycles
+each_unwatched [] cycles = cycles
+each_unwatched (key ∷ keys) cycles = each_unwatched keys (without_subscribed key.server key.service key.client cycles)
+
+-- the subscriptions that have expired end, their events are watched no more, and the flows between the client and the server of each are disturbed
 abbrev pub without_passed : ℕ → Held → Held
 without_passed now held =
-    record held { receivers = without_expired now held.receivers; events = each_disturbed (finite.keys (expired now held.receivers.standing)) held.events }
+    record held { receivers = without_expired now held.receivers; events = each_disturbed (finite.keys (expired now held.receivers.standing)) held.events; cycles = each_unwatched (finite.keys (expired now held.receivers.standing)) held.cycles }
 
 -- ---- one datagram
 

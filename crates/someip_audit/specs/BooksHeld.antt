@@ -12,6 +12,7 @@ use Rattle.audit_sd.specs.subscriptions.SubscribeTables.{SubscribeTable, coded_s
 use Rattle.audit_sd.specs.sessions.SessionBooks.{Sessions, coded_sessions, no_sessions}
 use Rattle.audit_sd.specs.receivers.ReceiverTables.{Receivers, coded_receivers}
 use Rattle.audit_traffic.specs.sequence.Sequences.{Sequence, coded_sequence, new_sequence}
+use Rattle.audit_traffic.specs.cycles.CycleTables.{Cycles, coded_cycles}
 use Rattle.audit_traffic.specs.ways.WayTables.{Ways, coded_ways}
 use Rattle.someip_audit.specs.declared.rules.AuditRules.{AuditRules}
 use Rattle.someip_audit.specs.AnswerTimes.{Times, coded_times}
@@ -28,6 +29,7 @@ pub record Held : Type 0 where
   pub sessions : Sessions
   pub receivers : Receivers
   pub events : Sequence
+  pub cycles : Cycles
   pub ways : Ways
   pub watched : Watch
   pub is_offered : Bool
@@ -49,6 +51,7 @@ empty_held rules bench ports learns now = record {
   sessions = no_sessions rules.limit rules.overtake_ms;
   receivers = record { limit = rules.limit; settled = moment_after now rules.settle_ms; standing = finite.empty; told = finite.empty; told_full = false };
   events = new_sequence (record { limit = rules.limit; overtake_ms = rules.overtake_ms; counting = rules.counting });
+  cycles = record { limit = rules.limit; watched = finite.empty; told_full = false };
   ways = record { limit = rules.limit; numbers = finite.empty; told_full = false };
   watched = watch_begun ports learns rules.limit;
   is_offered = false;
@@ -57,8 +60,8 @@ empty_held rules bench ports learns now = record {
 -- a code, by which a proof tells values apart
 abbrev pub coded_held : Coded Held
 coded_held =
-    code_by ((((calls.Book × segments.Book) × (Sequence × Watch)) × (((OfferTable × ServerTable) × SubscribeTable) × (Sessions × Receivers))) × ((Ways × Bool) × Times))
-    (coded× (coded× (coded× (coded× codes.coded_book segments.coded_book) (coded× coded_sequence coded_watch)) (coded× (coded× (coded× coded_offers coded_servers) coded_subscribes) (coded× coded_sessions coded_receivers))) (coded× (coded× coded_ways coded_bool) coded_times))
-    (λ h. ((((h.calls, h.segments), (h.events, h.watched)), (((h.offers, h.servers), h.subscriptions), (h.sessions, h.receivers))), ((h.ways, h.is_offered), h.times)))
-    (λ c. record { times = c.1.1; calls = c.0.0.0.0; segments = c.0.0.0.1; events = c.0.0.1.0; watched = c.0.0.1.1; offers = c.0.1.0.0.0; servers = c.0.1.0.0.1; subscriptions = c.0.1.0.1; sessions = c.0.1.1.0; receivers = c.0.1.1.1; ways = c.1.0.0; is_offered = c.1.0.1 })
+    code_by ((((calls.Book × segments.Book) × (Sequence × Watch)) × (((OfferTable × ServerTable) × SubscribeTable) × (Sessions × Receivers))) × ((Ways × Bool) × (Times × Cycles)))
+    (coded× (coded× (coded× (coded× codes.coded_book segments.coded_book) (coded× coded_sequence coded_watch)) (coded× (coded× (coded× coded_offers coded_servers) coded_subscribes) (coded× coded_sessions coded_receivers))) (coded× (coded× coded_ways coded_bool) (coded× coded_times coded_cycles)))
+    (λ h. ((((h.calls, h.segments), (h.events, h.watched)), (((h.offers, h.servers), h.subscriptions), (h.sessions, h.receivers))), ((h.ways, h.is_offered), (h.times, h.cycles))))
+    (λ c. record { times = c.1.1.0; cycles = c.1.1.1; calls = c.0.0.0.0; segments = c.0.0.0.1; events = c.0.0.1.0; watched = c.0.0.1.1; offers = c.0.1.0.0.0; servers = c.0.1.0.0.1; subscriptions = c.0.1.0.1; sessions = c.0.1.1.0; receivers = c.0.1.1.1; ways = c.1.0.0; is_offered = c.1.0.1 })
     (λ _. refl)

@@ -1,5 +1,5 @@
 -- What falls due between datagrams, over all books.
-use Rattle.std.specs.Prelude.{◌≡◌, ◌≤◌, ℕ, nat_le, max, if◌then◌else◌, Option, None, Some}
+use Rattle.std.specs.Prelude.{◌≡◌, ◌≤◌, ℕ, nat_le, max, false, if◌then◌else◌, Option, None, Some}
 use Rattle.std.specs.declared.cmp.Ordering.{Ordering}
 use Rattle.std.specs.declared.cmp.Ordering.TheVariants.{Equal}
 use Rattle.std.specs.Ordering.{nat_cmp, ordering_then}
@@ -10,8 +10,15 @@ use Rattle.audit_traffic.specs.calls.CallBooks as calls
 use Rattle.audit_traffic.specs.calls.Overdue.{IsOpenCall, calls_after_due}
 use Rattle.audit_traffic.specs.segments.MessageKeys.{message_cmp, message_key}
 use Rattle.audit_traffic.specs.segments.SegmentBooks as segments
+use Rattle.audit_traffic.specs.cycles.CycleTables as cycles
+use Rattle.audit_traffic.specs.events.FlowKeys.{flow_cmp}
 use Rattle.audit_traffic.specs.gaps.MissingKeys.{missing_cmp}
 use Rattle.audit_traffic.specs.sequence.Sequences as events
+use Rattle.std.specs.declared.net.socket_addr.SocketAddrV4.{SocketAddrV4}
+use Rattle.someip_tables.specs.declared.lasting.Lasting.{Lasting}
+use Rattle.someip_tables.specs.Deadlines.{has_passed}
+use Rattle.audit_sd.specs.declared.subscriptions.key.SubscriptionKey.{SubscriptionKey}
+use Rattle.audit_sd.specs.receivers.ReceiverTables.{Subscriptions}
 use Rattle.audit_sd.specs.offers.OfferKeys.{offer_cmp}
 use Rattle.audit_sd.specs.offers.OfferRules.{passes_at}
 use Rattle.audit_sd.specs.offers.OfferTables as offers
@@ -28,6 +35,7 @@ deadline (due.Missing told) = told.until
 deadline (due.Expired told) = told.at
 deadline (due.SubscribeUnanswered told) = told.at
 deadline (due.EventLost told) = told.at
+deadline (due.Silent told) = told.at
 
 -- the place of its book among the books
 abbrev pub book_of : FellDue → ℕ
@@ -36,6 +44,7 @@ book_of (due.Missing told) = 1
 book_of (due.Expired told) = 2
 book_of (due.SubscribeUnanswered told) = 3
 book_of (due.EventLost told) = 4
+book_of (due.Silent told) = 5
 
 -- by key, of what is of one book
 abbrev pub key_cmp : FellDue → FellDue → Ordering
@@ -44,19 +53,26 @@ key_cmp (due.Missing a) (due.Missing b) = message_cmp (message_key a.key) (messa
 key_cmp (due.Expired a) (due.Expired b) = offer_cmp a.key b.key
 key_cmp (due.SubscribeUnanswered a) (due.SubscribeUnanswered b) = subscription_cmp a.key b.key
 key_cmp (due.EventLost a) (due.EventLost b) = missing_cmp a.key b.key
+key_cmp (due.Silent a) (due.Silent b) = flow_cmp a.flow b.flow
 key_cmp a b = Equal
 
 -- by deadline, then by book, and then by key
 abbrev pub fell_cmp : FellDue → FellDue → Ordering
 fell_cmp a b = ordering_then (nat_cmp (deadline a) (deadline b)) (ordering_then (nat_cmp (book_of a) (book_of b)) (key_cmp a b))
 
--- it waits in its book, so as it is told
+-- none of the subscriptions that stand has passed by a moment
+abbrev pub NonePassed : ℕ → Subscriptions → Type 0
+NonePassed at standing = (key : SubscriptionKey) (lasting : Lasting SocketAddrV4) → finite.get standing key ≡ Some lasting → has_passed at lasting.until ≡ false
+
+-- it waits in its book, so as it is told; and a silent event only until a subscription has passed
 abbrev pub IsAwaited : Held → FellDue → Type 0
 IsAwaited held (due.Unanswered told) = IsOpenCall held.calls.calls told
 IsAwaited held (due.Missing told) = segments.IsWaiting held.segments.waiting told
 IsAwaited held (due.Expired told) = (finite.get held.offers.standing told.key ≡ Some told.offer) × (passes_at told.offer ≡ Some told.at)
 IsAwaited held (due.SubscribeUnanswered told) = finite.get held.subscriptions.waiting told.key ≡ Some (record { origin = told.origin; until = told.at })
 IsAwaited held (due.EventLost told) = finite.get held.events.gaps.waiting told.key ≡ Some (record { shown_by = told.shown_by; numbers = told.numbers; until = told.at })
+IsAwaited held (due.Silent told) =
+    (finite.get held.cycles.watched told.flow ≡ Some (record { silent_ms = told.silent_ms; until = told.at; numbers = told.numbers })) × NonePassed told.at held.receivers.standing
 
 -- and its deadline has come
 abbrev pub IsDue : ℕ → Held → FellDue → Type 0
@@ -86,6 +102,7 @@ others_after (due.Missing told) held = record held { segments = segments.book_af
 others_after (due.Expired told) held = record held { offers = offers.after_due (Some told) held.offers }
 others_after (due.SubscribeUnanswered told) held = record held { subscriptions = subscriptions.after_due (Some told) held.subscriptions }
 others_after (due.EventLost told) held = record held { events = events.after_due (Some told) held.events }
+others_after (due.Silent told) held = record held { cycles = cycles.after_silent (Some told) held.cycles }
 
 abbrev pub others_then : Option FellDue → Held → Held
 others_then None held = held
@@ -99,3 +116,9 @@ after_due now told held = record (others_then told held) { calls = calls_then no
 abbrev pub soonest : ℕ → Option ℕ → ℕ
 soonest now None = now
 soonest now (Some at) = if nat_le at now then at else now
+
+-- a moment, unless something ends at it or before
+abbrev pub unless_ended : Option ℕ → Option ℕ → Option ℕ
+unless_ended None end = None
+unless_ended (Some at) None = Some at
+unless_ended (Some at) (Some end) = if nat_le end at then None else Some at

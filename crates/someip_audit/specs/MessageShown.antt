@@ -22,12 +22,14 @@ use Rattle.audit_sd.specs.servers.ServerTables as servers
 use Rattle.audit_traffic.specs.declared.events.flow.EventFlow.{EventFlow}
 use Rattle.audit_traffic.specs.declared.events.notification.Notification.{Notification as EventSeen}
 use Rattle.audit_traffic.specs.sequence.Sequences as events
+use Rattle.audit_traffic.specs.declared.cycles.finding.Finding.{Finding as CycleFinding}
+use Rattle.audit_traffic.specs.cycles.CycleTables as cycles
 use Rattle.audit_traffic.specs.declared.ways.finding.Finding.{Finding as WayFinding}
 use Rattle.audit_traffic.specs.declared.ways.way.Way.{Way}
 use Rattle.audit_traffic.specs.ways.WayTables as ways
 use Rattle.someip_audit.specs.declared.finding.Finding.{Finding}
 use Rattle.someip_audit.specs.declared.finding.Finding.TheVariants as findings
-use Rattle.someip_audit.specs.AnswerTimes.{answer_ms_of}
+use Rattle.someip_audit.specs.AnswerTimes.{answer_ms_of, cycle_ms_of}
 use Rattle.someip_audit.specs.BooksHeld.{Held}
 use Rattle.someip_audit.specs.SdEntries.{server_key}
 use Rattle.someip_audit.specs.SdShown.{Work, with_told}
@@ -123,9 +125,29 @@ flow_shown now origin header work =
     }
     else work
 
--- what it shows of its server, then of those who are subscribed to its event, and then by the event's session
+-- that the book of cycles is full is told
+abbrev pub told_of_cycle : Option CycleFinding → Option Finding
+told_of_cycle None = None
+told_of_cycle (Some shown) = Some findings.CyclesFull
+
+-- an event with this cycle is watched from now on
+abbrev pub watch_shown : ℕ → Origin → EventFlow → Option ℕ → Work → Work
+watch_shown now origin flow None work = work
+watch_shown now origin flow (Some cycle_ms) work = record {
+  held = record work.held { cycles = cycles.after_event now flow cycle_ms origin.numbers work.held.cycles };
+  told = with_told (told_of_cycle (cycles.told_by flow work.held.cycles)) work.told;
+}
+
+-- how often an event comes to one endpoint is judged where that is subscribed
+abbrev pub cycle_shown : ℕ → Origin → Header → Work → Work
+cycle_shown now origin header work =
+    if is_event origin header && receivers.is_subscribed (delivery origin header) work.held.receivers.standing
+    then watch_shown now origin (event_flow origin header) (cycle_ms_of work.held.times header.service header.method) work
+    else work
+
+-- what it shows of its server, then of those who are subscribed to its event, by the event's session, and by how often it comes
 abbrev pub rest_shown : ℕ → Origin → Header → Work → Work
-rest_shown now origin header work = flow_shown now origin header (event_shown now origin header (judged_shown now origin header work))
+rest_shown now origin header work = cycle_shown now origin header (flow_shown now origin header (event_shown now origin header (judged_shown now origin header work)))
 
 -- what it shows of calls, then by its return code, and then the rest
 abbrev pub whole_shown : ℕ → Origin → Header → List ℕ → Work → Work

@@ -25,6 +25,8 @@ use Rattle.audit_sd.specs.declared.receivers.entry.ReceiverEntry.{ReceiverEntry}
 use Rattle.audit_sd.specs.declared.receivers.entry.WithdrawnOffer.{WithdrawnOffer}
 use Rattle.audit_sd.specs.receivers.ReceiverTables as receivers
 use Rattle.audit_sd.specs.declared.subscriptions.key.SubscriptionKey.{SubscriptionKey}
+use Rattle.audit_traffic.specs.cycles.CycleTables as cycles
+use Rattle.audit_traffic.specs.cycles.CycleTables.{Cycles}
 use Rattle.audit_traffic.specs.sequence.Sequences as events
 use Rattle.someip_audit.specs.declared.finding.Finding.{Finding}
 use Rattle.someip_audit.specs.declared.finding.Finding.TheVariants as findings
@@ -57,6 +59,7 @@ begun_again address held =
       subscriptions = subscriptions.without address held.subscriptions;
       receivers = receivers.without address held.receivers;
       events = events.without address held.events;
+      cycles = cycles.without address held.cycles;
     }
 
 -- so it is where the sessions show a reboot
@@ -83,7 +86,7 @@ offer_shown now entry work = record {
 abbrev pub withdrawn : WithdrawnOffer → Work → Work
 withdrawn offer work =
     record work {
-      held = record work.held { receivers = receivers.without_offer offer work.held.receivers; events = events.after_withdrawal offer.server offer.service work.held.events };
+      held = record work.held { receivers = receivers.without_offer offer work.held.receivers; events = events.after_withdrawal offer.server offer.service work.held.events; cycles = cycles.without_service offer.server offer.service work.held.cycles };
     }
 
 -- that there is no room for a server is told
@@ -136,14 +139,23 @@ receiver_shown now entry work = record {
   told = with_told (option_map (findings.Receiver entry.key) (receivers.told_by entry work.held.receivers)) work.told;
 }
 
+-- where a subscription ends its events are watched no more
+abbrev pub unwatched_if : Bool → SubscriptionKey → Cycles → Cycles
+unwatched_if ends key book = if ends then cycles.without_subscribed key.server key.service key.client book else book
+
 -- a subscription changes: the events from its server to its client may go to nobody
-abbrev pub changed : SubscriptionKey → Work → Work
-changed key work = record work { held = record work.held { events = events.after_change key.client key.server work.held.events } }
+abbrev pub changed : SubscribeEntry → Option SocketAddrV4 → Work → Work
+changed entry endpoint work = record work {
+  held = record work.held {
+    events = events.after_change entry.key.client entry.key.server work.held.events;
+    cycles = unwatched_if (receivers.ends (receiver_entry entry endpoint) work.held.receivers) entry.key work.held.cycles;
+  };
+}
 
 -- the books take an entry of an eventgroup: its subscription changes, and it shows what is told as to its answer, and then as to who
 -- is subscribed
 abbrev pub group_taken : ℕ → SubscribeEntry → Option SocketAddrV4 → Work → Work
-group_taken now entry endpoint work = receiver_shown now (receiver_entry entry endpoint) (subscribe_shown now entry (changed entry.key work))
+group_taken now entry endpoint work = receiver_shown now (receiver_entry entry endpoint) (subscribe_shown now entry (changed entry endpoint work))
 
 -- an answer that nobody asked for is told as that
 abbrev pub told_unasked : ℕ → SubscribeEntry → Held → Option Finding

@@ -7,7 +7,7 @@ ghost use Rattle.someip_audit.specs.declared.fell_due.FellDue.{FellDue};
 
 use crate::fell_due::FellDue;
 use crate::rules::AuditRules;
-use crate::soonest::{earlier, is_at, soonest};
+use crate::soonest::{earlier, is_at, soonest, unless_ended};
 use crate::times::AnswerTimes;
 use crate::watched::{WatchRules, Watched};
 use audit_rules::Rules;
@@ -17,6 +17,7 @@ use audit_sd::servers::ServerBook;
 use audit_sd::sessions::SessionBook;
 use audit_sd::subscriptions::SubscribeBook;
 use audit_traffic::calls::{CallBook, CallRules};
+use audit_traffic::cycles::CycleBook;
 use audit_traffic::segments::SegmentBook;
 use audit_traffic::sequence::{SequenceBook, SequenceRules};
 use audit_traffic::ways::WayBook;
@@ -38,6 +39,7 @@ pub(crate) struct Books<S: Reassembly> {
     pub(crate) sessions: SessionBook,
     pub(crate) receivers: ReceiverBook,
     pub(crate) events: SequenceBook,
+    pub(crate) cycles: CycleBook,
     pub(crate) ways: WayBook,
     pub(crate) watched: Watched,
     /// Whether an Offer was seen.
@@ -61,6 +63,7 @@ impl<S: Reassembly> Model for Books<S> {
       sessions = b.sessions;
       receivers = b.receivers;
       events = b.events;
+      cycles = b.cycles;
       ways = b.ways;
       watched = b.watched;
       is_offered = b.is_offered;
@@ -106,6 +109,7 @@ impl<S: Reassembly> Books<S> {
             sessions: SessionBook::new(alloc, rules.limit, rules.overtake_ms),
             receivers: ReceiverBook::new(alloc, rules.limit, moment_after(now, rules.settle_ms)),
             events: SequenceBook::new(alloc, sequences),
+            cycles: CycleBook::new(alloc, rules.limit),
             ways: WayBook::new(alloc, rules.limit),
             watched,
             is_offered: false,
@@ -125,7 +129,11 @@ impl<S: Reassembly> Books<S> {
         let offers = self.offers.next_due();
         let subscriptions = self.subscriptions.next_due();
         let lost = self.events.next_due();
-        let others = earlier(subscriptions, lost);
+        let cycles = self.cycles.next_due();
+        let end = self.receivers.next_expiry();
+        let silent = unless_ended(cycles, end);
+        let later = earlier(lost, silent);
+        let others = earlier(subscriptions, later);
         let rest = earlier(offers, others);
         let next = earlier(segments, rest);
         let at = soonest(now, next);
@@ -144,7 +152,10 @@ impl<S: Reassembly> Books<S> {
         if is_at(subscriptions, at) {
             return Some(FellDue::SubscribeUnanswered(self.subscriptions.due(at)?));
         }
-        Some(FellDue::EventLost(self.events.due(at)?))
+        if is_at(lost, at) {
+            return Some(FellDue::EventLost(self.events.due(at)?));
+        }
+        Some(FellDue::Silent(self.cycles.due(at)?))
     }
 }
 

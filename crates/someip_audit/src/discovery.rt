@@ -19,7 +19,7 @@ use crate::finding::Finding;
 use audit_sd::offers::OfferEntry;
 use audit_sd::receivers::{ReceiverEntry, WithdrawnOffer};
 use audit_sd::sessions::SdMessage;
-use audit_sd::subscriptions::{SubscribeEntry, SubscriptionKey};
+use audit_sd::subscriptions::SubscribeEntry;
 use sd_wire::{EntryHead, ReadEntry, SdRead, ServiceEntry, ServiceKind};
 use someip_reassembly::Reassembly;
 use someip_tables::Moment;
@@ -78,6 +78,7 @@ impl<S: Reassembly> Books<S> {
         self.subscriptions.forget(address);
         self.receivers.forget(address);
         self.events.forget(address);
+        self.cycles.forget(address);
     }
 
     /// The entries of a message come.
@@ -246,16 +247,21 @@ impl<S: Reassembly> Books<S> {
         ensures err { OnErr result (IsBegun findings.old.items findings.new.items
             (group_taken now entry endpoint (working self.old findings.old.items)).told) }
     {
-        self.change(entry.key);
+        self.change(&entry, endpoint);
         self.saw_subscribe(now, entry, findings)?;
         self.saw_receiver(now, receiver_entry(&entry, endpoint), findings)
     }
 
-    /// A subscription changes.
-    fn change(&mut self, key: SubscriptionKey)
-        ensures { self.new ≡ (changed key (working self.old [])).held }
+    /// A subscription changes, or ends.
+    fn change(&mut self, entry: &SubscribeEntry, endpoint: Option<SocketAddrV4>)
+        ensures { self.new ≡ (changed entry.now endpoint (working self.old [])).held }
     {
+        let key = entry.key;
         self.events.disturb(key.client, key.server);
+        if self.receivers.ends(&receiver_entry(entry, endpoint)) {
+            self.cycles
+                .unsubscribed(key.server, key.service, key.client);
+        }
     }
 
     /// An entry about an instance comes.
@@ -298,6 +304,7 @@ impl<S: Reassembly> Books<S> {
         self.end_server(&entry);
         self.receivers.withdraw(offer);
         self.events.withdraw(offer.server, offer.service);
+        self.cycles.withdraw(offer.server, offer.service);
         self.saw_offer(now, entry, findings)
     }
 

@@ -1,9 +1,10 @@
 //! Subscriptions that expire, over the books.
 ghost use Rattle.std.specs.Prelude.{◌≡◌, OnErr, OnOk};
-ghost use Rattle.someip_audit.specs.Audits.{each_disturbed, without_passed};
+ghost use Rattle.someip_audit.specs.Audits.{each_disturbed, each_unwatched, without_passed};
 
 use crate::books::Books;
 use audit_sd::subscriptions::SubscriptionKey;
+use audit_traffic::cycles::CycleBook;
 use audit_traffic::sequence::SequenceBook;
 use someip_reassembly::Reassembly;
 use someip_tables::Moment;
@@ -11,8 +12,8 @@ use std::alloc::{AllocError, Global};
 use std::collections::BTreeSet;
 
 impl<S: Reassembly> Books<S> {
-    /// Drops the subscriptions that have expired, and disturbs the flows between client and server of
-    /// each. Memory is taken only where there are any, and what is refused for want of it changes
+    /// Drops the subscriptions that have expired, disturbs the flows between client and server of each, and ends
+    /// the watches of its events. Memory is taken only where there are any, and what is refused for want of it changes
     /// nothing.
     pub(crate) fn expire(&mut self, alloc: Global, now: Moment) -> Result<(), AllocError>
         ensures ok { OnOk result (self.new ≡ without_passed now self.old) }
@@ -20,6 +21,7 @@ impl<S: Reassembly> Books<S> {
     {
         let ended = self.receivers.expire(alloc, now)?;
         disturb_each(&mut self.events, &ended);
+        unwatch_each(&mut self.cycles, &ended);
         Ok(())
     }
 }
@@ -30,5 +32,14 @@ fn disturb_each(events: &mut SequenceBook, ended: &BTreeSet<SubscriptionKey>)
 {
     for key in ended.iter() {
         events.disturb(key.client, key.server);
+    }
+}
+
+/// Ends the watches of the events of each of these subscriptions.
+fn unwatch_each(cycles: &mut CycleBook, ended: &BTreeSet<SubscriptionKey>)
+    ensures { cycles.new ≡ each_unwatched ended.now.keys cycles.old }
+{
+    for key in ended.iter() {
+        cycles.unsubscribed(key.server, key.service, key.client);
     }
 }

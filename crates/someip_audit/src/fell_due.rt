@@ -2,6 +2,7 @@
 use audit_sd::offers::Expired;
 use audit_sd::subscriptions::Unanswered as SubscribeUnanswered;
 use audit_traffic::calls::Unanswered;
+use audit_traffic::cycles::SilentEvent;
 use audit_traffic::gaps::LostEvent;
 use audit_traffic::segments::Missing;
 
@@ -18,4 +19,6 @@ pub enum FellDue {
     SubscribeUnanswered(SubscribeUnanswered),
     /// A session of an event was skipped, and did not come in time.
     EventLost(LostEvent),
+    /// An event that comes in cycles did not come for three of them.
+    Silent(SilentEvent),
 }

@@ -59,4 +59,7 @@ pub enum Finding {
     WaysFull,
     /// An Offer names a server, and as many are known as may be. It is told once, and the server is not taken.
     ServersFull,
+    /// An event comes in cycles, and as many flows are watched as may be. It is told once, and the flow is not
+    /// watched.
+    CyclesFull,
 }

@@ -7,6 +7,7 @@
 //! session of its event are told.
 ghost use Rattle.std.specs.Prelude.{◌≡◌, OnErr, OnOk, Some};
 ghost use Rattle.someip_wire.specs.View.{view};
+ghost use Rattle.someip_audit.specs.MessageShown.{cycle_shown, delivery};
 ghost use Rattle.someip_audit.specs.MessageShown.{call_shown, event_flow, event_shown, flow_shown};
 ghost use Rattle.someip_audit.specs.MessageShown.{goes_to_server, is_error, is_of_call, is_unicast};
 ghost use Rattle.someip_audit.specs.MessageShown.{judged_shown, message_shown, piece_shown, rest_shown};
@@ -187,7 +188,8 @@ impl<S: Reassembly> Books<S> {
     {
         self.judge(now, origin, header, findings)?;
         self.saw_event(now, origin, header, findings)?;
-        self.saw_flow(now, origin, header, findings)
+        self.saw_flow(now, origin, header, findings)?;
+        self.saw_cycle(now, origin, header, findings)
     }
 
     /// A whole message comes, as to its server.
@@ -251,12 +253,7 @@ impl<S: Reassembly> Books<S> {
         if !matches!(header.kind, MessageType::Notification) || !is_unicast(&origin.to) {
             return Ok(());
         }
-        let delivery = Delivery {
-            server: *origin.from.ip(),
-            service: header.service,
-            event: header.method,
-            endpoint: origin.to,
-        };
+        let delivery = delivery(origin, header);
         match self.receivers.event(now, delivery)? {
             Some(shown) => tell(findings, Finding::Event(delivery, shown)),
             None => Ok(()),
@@ -285,6 +282,34 @@ impl<S: Reassembly> Books<S> {
         };
         match self.events.saw(now, origin.numbers, seen)? {
             Some(shown) => tell(findings, Finding::EventSession(flow, header.session, shown)),
+            None => Ok(()),
+        }
+    }
+
+    /// A whole message comes, as to how often its event comes.
+    fn saw_cycle(
+        &mut self,
+        now: Moment,
+        origin: &Origin,
+        header: &Header,
+        findings: &mut Vec<Finding>,
+    ) -> Result<(), AllocError>
+        ensures ok { OnOk result (working self.new findings.new.items
+            ≡ cycle_shown now origin.now header.now (working self.old findings.old.items)) }
+        ensures err { OnErr result (findings.new.items ≡ findings.old.items) }
+    {
+        if !matches!(header.kind, MessageType::Notification) || !is_unicast(&origin.to) {
+            return Ok(());
+        }
+        let Some(cycle_ms) = self.times.cycle_ms(header.service, header.method) else {
+            return Ok(());
+        };
+        if !self.receivers.is_subscribed(&delivery(origin, header)) {
+            return Ok(());
+        }
+        let flow = event_flow(origin, header);
+        match self.cycles.came(now, flow, cycle_ms, origin.numbers)? {
+            Some(_) => tell(findings, Finding::CyclesFull),
             None => Ok(()),
         }
     }
@@ -363,6 +388,18 @@ fn goes_to_server(kind: MessageType) -> bool
         kind.without_tp_flag(),
         MessageType::Request | MessageType::RequestNoReturn
     )
+}
+
+/// An event that went to one endpoint.
+fn delivery(origin: &Origin, header: &Header) -> Delivery
+    ensures { result ≡ delivery origin.now header.now }
+{
+    Delivery {
+        server: *origin.from.ip(),
+        service: header.service,
+        event: header.method,
+        endpoint: origin.to,
+    }
 }
 
 /// The flow of an event.

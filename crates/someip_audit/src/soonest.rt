@@ -2,7 +2,7 @@
 ghost use Rattle.std.specs.Prelude.{◌≡◌};
 ghost use Rattle.someip_tables.specs.Agendas.{is_awaited};
 ghost use Rattle.someip_tables.specs.Waits.{earlier};
-ghost use Rattle.someip_audit.specs.FellDues.{soonest};
+ghost use Rattle.someip_audit.specs.FellDues.{soonest, unless_ended};
 
 use someip_tables::Moment;
 
@@ -34,5 +34,15 @@ pub(crate) fn is_at(next: Option<u64>, at: Moment) -> bool
     match next {
         Some(moment) => moment == at.as_millis(),
         None => false,
+    }
+}
+
+/// A moment, unless something ends at it or before.
+pub(crate) fn unless_ended(at: Option<u64>, end: Option<u64>) -> Option<u64>
+    ensures { result ≡ unless_ended at end }
+{
+    match (at, end) {
+        (Some(at), Some(end)) if end <= at => None,
+        (at, _) => at,
     }
 }

@@ -1,6 +1,6 @@
-//! How long answers may take.
+//! How long answers may take, and how often events come.
 ghost use Rattle.std.specs.Prelude.{◌≡◌, IfOk};
-ghost use Rattle.someip_audit.specs.AnswerTimes.{answer_ms_of};
+ghost use Rattle.someip_audit.specs.AnswerTimes.{answer_ms_of, cycle_ms_of};
 
 use audit_rules::Rules;
 use std::alloc::{AllocError, Global};
@@ -36,6 +36,13 @@ impl AnswerTimes {
             rules: rules.copy(alloc)?,
             answer_ms,
         })
+    }
+
+    /// How many milliseconds after such an event the next one is to come, if the rules say so.
+    pub(crate) fn cycle_ms(&self, service: u16, event: u16) -> Option<u32>
+        ensures { result ≡ cycle_ms_of self.now service event }
+    {
+        self.rules.cycle_ms(service, event)
     }
 
     /// How many milliseconds an answer to a REQUEST of this service and method may take.

@@ -13,7 +13,7 @@ use Rattle.someipctl_show.specs.types.Tables.{has_unknown, is_unknown}
 use Rattle.someipctl_show.proofs.about_types.UnknownLemmas.{is_there}
 use Rattle.someipctl_rules.specs.declared.key_error.KeyError.{KeyError}
 use Rattle.someipctl_rules.specs.declared.key_error.KeyError.TheVariants as parts
-use Rattle.someipctl_rules.specs.Keys.{IsAsFound, IsWrongKindAt, TellsOfKey, millis_at}
+use Rattle.someipctl_rules.specs.Keys.{IsAsFound, IsWrongKindAt, TellsOfKey, cycle_at, millis_at}
 use Rattle.someipctl_rules.specs.Saying.{good_bounds, good_list, message_in, only_if, only_known, rule_in, rule_keys, rule_of, treatments_in}
 use Rattle.someipctl_rules.specs.Told.{FailsAt, IsUnknownKey, IsUnsaid, ListTold, Refuses, RefusesMessage, RefusesRule, RefusesTreatments, RuleTold, TellsUnknown, TellsUnknownKind}
 use Rattle.someipctl_rules.specs.Treating.{all_words, bounds_at, each_treated, has_only_kinds, has_words, is_kind_text, is_text_of, list_at, names_one}
@@ -231,14 +231,17 @@ unknown_key_told d (parts.UnknownKind words) told = absurd told
 unknown_key_told d parts.TooMany told = absurd told
 
 module _ (d : Data) where
-  abbrev with_keys : (Option ℕ × Option ℕ) → Option ℕ → List Treatment → Option Rule
-  with_keys message answer_ms treatments = only_if (not (has_unknown rule_keys d)) (rule_of message answer_ms treatments)
+  abbrev with_keys : (Option ℕ × Option ℕ) → Option ℕ → Option ℕ → List Treatment → Option Rule
+  with_keys message answer_ms cycle_ms treatments = only_if (not (has_unknown rule_keys d)) (rule_of message answer_ms cycle_ms treatments)
 
-  abbrev with_treatments : (Option ℕ × Option ℕ) → Option ℕ → Option (List Treatment) → Option Rule
-  with_treatments message answer_ms treatments = option_and_then (with_keys message answer_ms) treatments
+  abbrev with_treatments : (Option ℕ × Option ℕ) → Option ℕ → Option ℕ → Option (List Treatment) → Option Rule
+  with_treatments message answer_ms cycle_ms treatments = option_and_then (with_keys message answer_ms cycle_ms) treatments
+
+  abbrev with_cycle : (Option ℕ × Option ℕ) → Option ℕ → Option (Option ℕ) → Option Rule
+  with_cycle message answer_ms cycle = option_and_then (λ cycle_ms. with_treatments message answer_ms cycle_ms (treatments_in d)) cycle
 
   abbrev with_millis : (Option ℕ × Option ℕ) → Option (Option ℕ) → Option Rule
-  with_millis message millis = option_and_then (λ answer_ms. with_treatments message answer_ms (treatments_in d)) millis
+  with_millis message millis = option_and_then (λ answer_ms. with_cycle message answer_ms (cycle_at (codes "cycle_ms") d)) millis
 
   abbrev with_message : Option (Option ℕ × Option ℕ) → Option Rule
   with_message message = option_and_then (λ m. with_millis m (millis_at (codes "answer_ms") d)) message
@@ -251,19 +254,27 @@ module _ (d : Data) where
     millis_refused e refused = refuses_by (rule_in d) d (codes "answer_ms") e (ap with_message said ∙ ap (with_millis message) refused.0) (FailsAt.answer refused.0) refused.1
 
     module _ (answer_ms : Option ℕ) (millis : millis_at (codes "answer_ms") d ≡ Some answer_ms) where
-      pub treatments_refused : (e : KeyError) → RefusesTreatments d e → RefusesRule d e
-      treatments_refused e refused =
-          (unsaid_then (treatments_in d) (rule_in d) e (λ none. ap with_message said ∙ ap (with_millis message) millis ∙ ap (with_treatments message answer_ms) none) refused.0, refused.1)
+      pub cycle_refused : (e : KeyError) → (cycle_at (codes "cycle_ms") d ≡ None) × TellsOfKey (codes "cycle_ms") e → RefusesRule d e
+      cycle_refused e refused =
+          refuses_by (rule_in d) d (codes "cycle_ms") e (ap with_message said ∙ ap (with_millis message) millis ∙ ap (with_cycle message answer_ms) refused.0) (FailsAt.cycle refused.0) refused.1
 
-      module _ (treatments : List Treatment) (treated : treatments_in d ≡ Some treatments) where
-        all_said : rule_in d ≡ with_keys message answer_ms treatments
-        all_said = ap with_message said ∙ ap (with_millis message) millis ∙ ap (with_treatments message answer_ms) treated
-
-        pub keys_refused : (e : KeyError) → IsUnsaid (only_known rule_keys d) e → TellsUnknown rule_keys d e → RefusesRule d e
-        keys_refused e unsaid told = (
-          unsaid_then (only_known rule_keys d) (rule_in d) e (λ none. all_said ∙ ap (λ b. only_if (not b) (rule_of message answer_ms treatments)) (only_none (has_unknown rule_keys d) d none)) unsaid,
-          unknown_key_told d e told,
+      module _ (cycle_ms : Option ℕ) (cycle : cycle_at (codes "cycle_ms") d ≡ Some cycle_ms) where
+        pub treatments_refused : (e : KeyError) → RefusesTreatments d e → RefusesRule d e
+        treatments_refused e refused = (
+          unsaid_then (treatments_in d) (rule_in d) e
+              (λ none. ap with_message said ∙ ap (with_millis message) millis ∙ ap (with_cycle message answer_ms) cycle ∙ ap (with_treatments message answer_ms cycle_ms) none) refused.0,
+          refused.1,
         )
 
-        pub rule_said : has_unknown rule_keys d ≡ false → rule_in d ≡ Some (rule_of message answer_ms treatments)
-        rule_said known = all_said ∙ ap (λ b. only_if (not b) (rule_of message answer_ms treatments)) known
+        module _ (treatments : List Treatment) (treated : treatments_in d ≡ Some treatments) where
+          all_said : rule_in d ≡ with_keys message answer_ms cycle_ms treatments
+          all_said = ap with_message said ∙ ap (with_millis message) millis ∙ ap (with_cycle message answer_ms) cycle ∙ ap (with_treatments message answer_ms cycle_ms) treated
+
+          pub keys_refused : (e : KeyError) → IsUnsaid (only_known rule_keys d) e → TellsUnknown rule_keys d e → RefusesRule d e
+          keys_refused e unsaid told = (
+            unsaid_then (only_known rule_keys d) (rule_in d) e (λ none. all_said ∙ ap (λ b. only_if (not b) (rule_of message answer_ms cycle_ms treatments)) (only_none (has_unknown rule_keys d) d none)) unsaid,
+            unknown_key_told d e told,
+          )
+
+          pub rule_said : has_unknown rule_keys d ≡ false → rule_in d ≡ Some (rule_of message answer_ms cycle_ms treatments)
+          rule_said known = all_said ∙ ap (λ b. only_if (not b) (rule_of message answer_ms cycle_ms treatments)) known

@@ -58,9 +58,9 @@ module _ (allowed : List Data) (bounds : Option Data) (kinds : List Kind) where
       by (Some l) = refl
 
 -- how many kinds there are
-pub many_kinds : length all_kinds ≡ 27
+pub many_kinds : length all_kinds ≡ 28
 unfolding all_kinds
 many_kinds = refl
 
-pub so_many : (kinds : List Kind) → kinds ≡ all_kinds → length kinds ≡ 27
+pub so_many : (kinds : List Kind) → kinds ≡ all_kinds → length kinds ≡ 28
 so_many kinds is = ap length is ∙ many_kinds

@@ -54,3 +54,12 @@ id_at key d = if_any (λ v. as_integer v >>= id_of) (get key d)
 -- the milliseconds at a key, if there are any
 abbrev pub millis_at : List ℕ → Data → Option (Option ℕ)
 millis_at key d = if_any (λ v. as_integer v >>= millis_of) (get key d)
+
+-- a number of milliseconds from 1 to 600000
+abbrev pub cycle_of : ℤ → Option ℕ
+cycle_of (pos n) = if nat_le 1 n && nat_le n 600000 then Some n else None
+cycle_of (negsuc n) = None
+
+-- the milliseconds of a cycle at a key, if there are any
+abbrev pub cycle_at : List ℕ → Data → Option (Option ℕ)
+cycle_at key d = if_any (λ v. as_integer v >>= cycle_of) (get key d)

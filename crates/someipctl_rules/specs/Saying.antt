@@ -6,7 +6,7 @@ use Rattle.someipctl_show.specs.types.Tables.{has_unknown, is_table}
 use Rattle.audit_rules.specs.declared.rule.Rule.{Rule}
 use Rattle.audit_rules.specs.declared.rule.Treatment.{Treatment}
 use Rattle.audit_rules.specs.Kinds.{all_kinds}
-use Rattle.someipctl_rules.specs.Keys.{◌>>=◌, id_at, millis_at}
+use Rattle.someipctl_rules.specs.Keys.{◌>>=◌, cycle_at, id_at, millis_at}
 use Rattle.someipctl_rules.specs.Treating.{bounds_at, each_treated, has_only_kinds, list_at, names_one}
 
 -- this, if that holds
@@ -21,7 +21,7 @@ only_known known d = only_if (not (has_unknown known d)) d
 
 -- the keys that a rule may have, and those of the file
 abbrev pub rule_keys : List (List ℕ)
-rule_keys = codes "service" ∷ codes "method" ∷ codes "answer_ms" ∷ codes "allow" ∷ codes "at_most" ∷ []
+rule_keys = codes "service" ∷ codes "method" ∷ codes "answer_ms" ∷ codes "cycle_ms" ∷ codes "allow" ∷ codes "at_most" ∷ []
 
 abbrev pub file_keys : List (List ℕ)
 file_keys = codes "rule" ∷ []
@@ -45,14 +45,14 @@ good_bounds bounds = only_if (has_only_kinds bounds) bounds
 abbrev pub treatments_in : Data → Option (List Treatment)
 treatments_in d = list_at (codes "allow") d >>= good_list >>= (λ allowed. bounds_at d >>= good_bounds >>= (λ bounds. each_treated allowed bounds all_kinds))
 
-abbrev pub rule_of : (Option ℕ × Option ℕ) → Option ℕ → List Treatment → Rule
-rule_of message answer_ms treatments = record { service = message.0; method = message.1; answer_ms = answer_ms; treatments = treatments }
+abbrev pub rule_of : (Option ℕ × Option ℕ) → Option ℕ → Option ℕ → List Treatment → Rule
+rule_of message answer_ms cycle_ms treatments = record { service = message.0; method = message.1; answer_ms = answer_ms; cycle_ms = cycle_ms; treatments = treatments }
 
 -- the rule that a table says, which has no other keys
 abbrev pub rule_in : Data → Option Rule
 rule_in d =
-    message_in d >>= (λ message. millis_at (codes "answer_ms") d >>= (λ answer_ms. treatments_in d >>= (λ treatments.
-    only_if (not (has_unknown rule_keys d)) (rule_of message answer_ms treatments))))
+    message_in d >>= (λ message. millis_at (codes "answer_ms") d >>= (λ answer_ms. cycle_at (codes "cycle_ms") d >>= (λ cycle_ms. treatments_in d >>= (λ treatments.
+    only_if (not (has_unknown rule_keys d)) (rule_of message answer_ms cycle_ms treatments)))))
 
 -- ---- the file
 

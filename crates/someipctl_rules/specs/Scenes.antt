@@ -27,10 +27,10 @@ both words =
 
 -- a rule of any service that treats kinds so
 abbrev pub treating : List Treatment → List Rule
-treating treatments = record { service = None; method = None; answer_ms = None; treatments = treatments } ∷ []
+treating treatments = record { service = None; method = None; answer_ms = None; cycle_ms = None; treatments = treatments } ∷ []
 
 abbrev pub late_allowed : List Treatment
-late_allowed = replicate 7 Counts ++ Allowed ∷ replicate 19 Counts
+late_allowed = replicate 7 Counts ++ Allowed ∷ replicate 20 Counts
 
 abbrev pub three_late : List Treatment
-three_late = replicate 7 Counts ++ AtMost 3 ∷ replicate 19 Counts
+three_late = replicate 7 Counts ++ AtMost 3 ∷ replicate 20 Counts

@@ -8,7 +8,7 @@ use Rattle.someipctl_rules.specs.declared.key_error.KeyError.{KeyError}
 use Rattle.someipctl_rules.specs.declared.key_error.KeyError.TheVariants as parts
 use Rattle.someipctl_rules.specs.declared.error.RulesError.{RulesError}
 use Rattle.someipctl_rules.specs.declared.error.RulesError.TheVariants as faults
-use Rattle.someipctl_rules.specs.Keys.{id_at, millis_at}
+use Rattle.someipctl_rules.specs.Keys.{cycle_at, id_at, millis_at}
 use Rattle.someipctl_rules.specs.Saying.{each_rule, file_keys, message_in, rule_in, rule_keys, rules_in, tables_at, treatments_in}
 use Rattle.someipctl_rules.specs.Treating.{all_words, bounds_at, each_treated, is_text_of, list_at}
 
@@ -48,6 +48,7 @@ pub data FailsAt (d : Data) : List ℕ → Type 0 where
   service : id_at (codes "service") d ≡ None → FailsAt d (codes "service")
   method : id_at (codes "method") d ≡ None → FailsAt d (codes "method")
   answer : millis_at (codes "answer_ms") d ≡ None → FailsAt d (codes "answer_ms")
+  cycle : cycle_at (codes "cycle_ms") d ≡ None → FailsAt d (codes "cycle_ms")
   allow : list_at (codes "allow") d ≡ None → FailsAt d (codes "allow")
   text : (allowed : List Data) → list_at (codes "allow") d ≡ Some allowed → list_all (λ v. is_some (as_str v)) allowed ≡ false → FailsAt d (codes "allow")
   bounds : bounds_at d ≡ None → FailsAt d (codes "at_most")

@@ -22,7 +22,7 @@ pub fn all_kinds_can_be_named()
 /// nothing.
 pub fn what_trees_say()
     ensures nothing { rules_in (table no_members) ≡ Some [] }
-    ensures each { rules_in (file_of (table no_members)) ≡ Some (treating (replicate 27 Counts)) }
+    ensures each { rules_in (file_of (table no_members)) ≡ Some (treating (replicate 28 Counts)) }
     ensures allowed { rules_in (file_of (allowing (codes "late"))) ≡ Some (treating late_allowed) }
     ensures bounded { rules_in (file_of (bounding (codes "late") 3)) ≡ Some (treating three_late) }
     ensures both { rules_in (file_of (both (codes "late"))) ≡ Some (treating three_late) }

@@ -7,7 +7,7 @@ ghost use Rattle.someipctl_rules.specs.Told.{RefusesMessage, RefusesRule, Refuse
 ghost use Rattle.someipctl_rules.specs.Treating.{bounds_at};
 
 use crate::key_error::KeyError;
-use crate::keys::{id_at, millis_at};
+use crate::keys::{cycle_at, id_at, millis_at};
 use crate::treatments::{list_at, refuse_kinds, treatments_of};
 use crate::unknown::{refuse_unknown, refuse_unknown_kinds};
 use audit_rules::{KIND_COUNT, Rule, Treatment};
@@ -15,7 +15,14 @@ use std::alloc::Global;
 use toml::Value;
 
 /// The keys that a rule may have.
-const RULE_KEYS: [&str; 5] = ["service", "method", "answer_ms", "allow", "at_most"];
+const RULE_KEYS: [&str; 6] = [
+    "service",
+    "method",
+    "answer_ms",
+    "cycle_ms",
+    "allow",
+    "at_most",
+];
 
 /// The rule that a table says.
 pub(crate) fn rule_in(alloc: Global, table: &Value) -> Result<Rule, KeyError>
@@ -24,12 +31,14 @@ pub(crate) fn rule_in(alloc: Global, table: &Value) -> Result<Rule, KeyError>
 {
     let message = message_in(table)?;
     let answer_ms = millis_at(table, "answer_ms")?;
+    let cycle_ms = cycle_at(table, "cycle_ms")?;
     let treatments = treatments_in(alloc, table)?;
     refuse_unknown(alloc, table, &RULE_KEYS)?;
     Ok(Rule {
         service: message.0,
         method: message.1,
         answer_ms,
+        cycle_ms,
         treatments,
     })
 }

@@ -12,7 +12,7 @@ use std::alloc::Global;
 use toml::Value;
 
 /// The words of all kinds.
-pub(crate) const KIND_WORDS: [&str; 27] = [
+pub(crate) const KIND_WORDS: [&str; 28] = [
     "malformed",
     "bad run",
     "no endpoint",
@@ -40,6 +40,7 @@ pub(crate) const KIND_WORDS: [&str; 27] = [
     "unasked ack",
     "unasked nack",
     "full",
+    "silent",
 ];
 
 /// Refuses a table that has a key which is none of these.

@@ -1,5 +1,5 @@
 -- The subscriptions that stand, and the events that were told.
-use Rattle.std.specs.Prelude.{ℕ, ◌==◌, nat_lt, Bool, true, not, ◌&&◌, ◌||◌, if◌then◌else◌, Option, None, Some, is_some, refl}
+use Rattle.std.specs.Prelude.{ℕ, ◌==◌, nat_lt, Bool, true, false, not, ◌&&◌, ◌||◌, if◌then◌else◌, Option, None, Some, is_some, refl}
 use Rattle.std.specs.Coded.{Coded, code_by, coded×, coded_ℕ, coded_bool}
 use base.Stored.{coded_unit}
 use Rattle.std.specs.FinMap as finite
@@ -7,7 +7,8 @@ use Rattle.std.specs.FinMap.{FinMap}
 use Rattle.std.specs.declared.net.ipv4_addr.Ipv4Addr.{Ipv4Addr}
 use Rattle.std.specs.declared.net.socket_addr.SocketAddrV4.{SocketAddrV4}
 use Rattle.someip_tables.specs.declared.lasting.Lasting.{Lasting}
-use Rattle.someip_tables.specs.Endpoints.{coded_endpoint}
+use Rattle.std.specs.Ordering.{eq_by_cmp}
+use Rattle.someip_tables.specs.Endpoints.{coded_endpoint, endpoint_cmp}
 use Rattle.someip_tables.specs.Lastings.{coded_lasting, unexpired}
 use Rattle.someip_tables.specs.Retained.{retain}
 use Rattle.someip_tables.specs.hashed.Rooms.{may_hold, told_when_full}
@@ -89,6 +90,18 @@ stores Answer entry book = is_some (finite.get book.standing entry.key)
 -- an entry is stored: of a StopSubscribe and a Nack there is nothing to store
 abbrev pub is_stored : ReceiverEntry → Receivers → Bool
 is_stored entry book = not (entry.ttl == 0) && stores entry.kind entry book
+
+-- an entry ends the subscription that stands with these: a StopSubscribe, a Nack, and a Subscribe with another endpoint
+abbrev pub moves_from : SocketAddrV4 → Option (Lasting SocketAddrV4) → Bool
+moves_from endpoint None = false
+moves_from endpoint (Some lasting) = not (eq_by_cmp endpoint_cmp lasting.value endpoint)
+
+abbrev pub moves : EntryKind → Option SocketAddrV4 → Option (Lasting SocketAddrV4) → Bool
+moves Subscribe (Some endpoint) standing = moves_from endpoint standing
+moves kind endpoint standing = false
+
+abbrev pub ends : ReceiverEntry → Receivers → Bool
+ends entry book = entry.ttl == 0 || moves entry.kind entry.endpoint (finite.get book.standing entry.key)
 
 -- ---- what ends several
 

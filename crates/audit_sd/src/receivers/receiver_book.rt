@@ -3,7 +3,8 @@ ghost use Rattle.std.specs.Prelude.{◌≡◌, ◌≢◌, IfOk, OnErr, OnOk, nat
 ghost use Rattle.std.specs.FinMap as finite;
 ghost use Rattle.someip_tables.specs.Deadlines.{deadline_after};
 ghost use Rattle.someip_tables.specs.Lastings.{NeedsMemory, expired};
-ghost use Rattle.audit_sd.specs.receivers.ReceiverTables.{after_entry, after_event, is_passed_over, is_stored};
+ghost use Rattle.someip_tables.specs.Waits.{HoldsFrom};
+ghost use Rattle.audit_sd.specs.receivers.ReceiverTables.{after_entry, after_event, ends, is_passed_over, is_stored, is_subscribed};
 ghost use Rattle.audit_sd.specs.receivers.ReceiverTables.{told_by, told_of_event, without, without_expired};
 ghost use Rattle.audit_sd.specs.receivers.ReceiverTables.{without_offer};
 
@@ -11,7 +12,7 @@ use crate::receivers::delivery::Delivery;
 use crate::receivers::entry::{ReceiverEntry, WithdrawnOffer};
 use crate::receivers::finding::Finding;
 use crate::receivers::standing::Standing;
-use crate::receivers::steps::{acknowledge, is_silent, may_hold, subscribe};
+use crate::receivers::steps::{acknowledge, is_silent, may_hold, moves, subscribe};
 use crate::receivers::told_events::ToldEvents;
 use crate::subscriptions::{EntryKind, SubscriptionKey};
 use someip_tables::Moment;
@@ -132,6 +133,29 @@ impl ReceiverBook {
         ensures { self.new ≡ without address self.old }
     {
         self.standing.forget(address);
+    }
+
+    /// Whether an entry ends what stood: a StopSubscribe, a Nack, or a Subscribe of a subscription that stands with
+    /// another endpoint. It is asked for before [`ReceiverBook::saw`] takes note of the entry.
+    pub fn ends(&self, entry: &ReceiverEntry) -> bool
+        ensures { result ≡ ends entry.now self.now }
+    {
+        entry.ttl == 0 || moves(entry, self.standing.endpoint_of(&entry.key))
+    }
+
+    /// Whether an event may go to its endpoint by a subscription. The book is as it was.
+    pub fn is_subscribed(&mut self, delivery: &Delivery) -> bool
+        ensures told { result ≡ is_subscribed delivery.now self.old.standing }
+        ensures unchanged { self.new ≡ self.old }
+    {
+        self.standing.is_subscribed(delivery)
+    }
+
+    /// When a subscription next expires, in milliseconds, if one does. What was not dropped may have.
+    pub fn next_expiry(&self) -> Option<u64>
+        ensures { HoldsFrom result (λ now. expired now self.now.standing ≢ finite.empty) }
+    {
+        self.standing.next_expiry()
     }
 
     /// Says what an event shows that went to one endpoint: that this has no subscription, once for each

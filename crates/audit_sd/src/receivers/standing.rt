@@ -3,6 +3,7 @@ ghost use Rattle.std.specs.Prelude.{◌≡◌, ◌≢◌, IfOk, OnErr, OnOk, is_
 ghost use Rattle.std.specs.FinMap as finite;
 ghost use Rattle.someip_tables.specs.Lastings.{NeedsMemory, expired, unexpired};
 ghost use Rattle.someip_tables.specs.Tables.{map_of};
+ghost use Rattle.someip_tables.specs.Waits.{HoldsFrom};
 ghost use Rattle.audit_sd.specs.subscriptions.SubscriptionKeys.{subscription_cmp};
 ghost use Rattle.audit_sd.specs.subscriptions.SubscribeRules.{is_of};
 ghost use Rattle.audit_sd.specs.receivers.ReceiverPlaces.{endpoint_in};
@@ -156,6 +157,14 @@ impl Standing {
         );
         self.held.drop_expired(now);
         Ok(ended)
+    }
+
+    /// When one next expires, in milliseconds, if one does.
+    pub(crate) fn next_expiry(&self) -> Option<u64>
+        ensures { HoldsFrom result
+            (λ now. expired now (map_of subscription_cmp self.now) ≢ finite.empty) }
+    {
+        self.held.first_deadline()
     }
 
     /// Ends those of an address and at it.

@@ -1,5 +1,7 @@
 //! What entries and events make of the tables of a book.
-ghost use Rattle.std.specs.Prelude.{◌≡◌, ◌||◌, IfOk, OnErr, is_some, nat_lt, true};
+ghost use Rattle.std.specs.Prelude.{◌≡◌, ◌||◌, IfOk, OnErr, Option, is_some, nat_lt, true};
+ghost use Rattle.std.specs.declared.net.socket_addr.SocketAddrV4.{SocketAddrV4};
+ghost use Rattle.someip_tables.specs.declared.lasting.Lasting.{Lasting};
 ghost use Rattle.std.specs.FinMap as finite;
 ghost use Rattle.someip_tables.specs.Deadlines.{deadline_after};
 ghost use Rattle.someip_tables.specs.Lastings.{NeedsMemory};
@@ -8,13 +10,14 @@ ghost use Rattle.someip_tables.specs.hashed.Rooms.{may_hold};
 ghost use Rattle.audit_sd.specs.subscriptions.SubscriptionKeys.{subscription_cmp};
 ghost use Rattle.audit_sd.specs.subscriptions.SubscribeRules.{is_of};
 ghost use Rattle.audit_sd.specs.receivers.ReceiverRules.{goes_by, is_to, standing_from};
-ghost use Rattle.audit_sd.specs.receivers.ReceiverTables.{acked, is_subscribed};
+ghost use Rattle.audit_sd.specs.receivers.ReceiverTables.{acked, is_subscribed, moves};
+ghost use Rattle.audit_sd.specs.receivers.ReceiverPlaces.{endpoint_in};
 
 use crate::receivers::delivery::Delivery;
 use crate::receivers::entry::{ReceiverEntry, WithdrawnOffer};
 use crate::receivers::places::Held;
 use crate::receivers::standing::Standing;
-use crate::subscriptions::SubscriptionKey;
+use crate::subscriptions::{EntryKind, SubscriptionKey};
 use someip_tables::hashed::Room;
 use someip_tables::{Deadline, Moment, is_same_key};
 use std::alloc::AllocError;
@@ -110,4 +113,17 @@ pub(crate) fn is_of(key: &SubscriptionKey, address: Ipv4Addr) -> bool
     ensures { result ≡ is_of address key.now }
 {
     is_same_key(&key.client, &address) || is_same_key(&key.server, &address)
+}
+
+/// Whether an entry is a Subscribe with another endpoint than the one that stands.
+pub(crate) fn moves(entry: &ReceiverEntry, standing: Option<SocketAddrV4>) -> bool
+    ensures { (lasting : Option (Lasting SocketAddrV4)) → standing ≡ endpoint_in lasting
+        → result ≡ moves entry.now.kind entry.now.endpoint lasting }
+{
+    match (entry.kind, entry.endpoint, standing) {
+        (EntryKind::Subscribe, Some(endpoint), Some(standing)) => !is_same_key(
+            &standing, &endpoint,
+        ),
+        _ => false,
+    }
 }

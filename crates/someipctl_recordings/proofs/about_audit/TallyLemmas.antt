@@ -68,7 +68,7 @@ counts_regrouped t noted reports looked counts = record {
   kinds = counts.kinds;
 }
 
-below : (kind : Kind) → kind_number kind < 27
+below : (kind : Kind) → kind_number kind < 28
 below Malformed = lit< tt
 below _ = lit< tt
 

@@ -69,6 +69,7 @@ origin_of_due (due.Missing told) = record { numbers = told.numbers; from = told.
 origin_of_due (due.Expired told) = told.offer.origin
 origin_of_due (due.SubscribeUnanswered told) = told.origin
 origin_of_due (due.EventLost told) = record { numbers = told.numbers; from = told.shown_by.sender; to = told.shown_by.receiver }
+origin_of_due (due.Silent told) = record { numbers = told.numbers; from = told.flow.sender; to = told.flow.receiver }
 
 -- the line of what fell due, at its deadline; it may be allowed
 abbrev pub due_line : Form → Bool → Bool → FellDue → List ℕ

@@ -137,6 +137,7 @@ said (findings.Segment h refusal) = says kinds.Segments (error_name refusal ∷ 
 said findings.EndpointsFull = full (codes "endpoints")
 said findings.WaysFull = full (codes "ways")
 said findings.ServersFull = full (codes "servers")
+said findings.CyclesFull = full (codes "cycles")
 
 -- ---- what fell due
 
@@ -147,3 +148,4 @@ said_of_due (due.Missing told) = says kinds.SegmentsMissing (call_words told.key
 said_of_due (due.Expired told) = says kinds.OfferExpired (offer_words told.key)
 said_of_due (due.SubscribeUnanswered told) = says kinds.SubscribeUnanswered (subscription_words told.key)
 said_of_due (due.EventLost told) = says kinds.EventGap (ids_text told.shown_by.service told.shown_by.event ∷ codes "session" ∷ hex4 told.key.session ∷ [])
+said_of_due (due.Silent told) = says kinds.Silent (decimal told.silent_ms ∷ codes "ms" ∷ ids_text told.flow.service told.flow.event ∷ [])

@@ -88,6 +88,7 @@ subject (findings.Segment h refusal) = Some (about_call h.service h.method h.cli
 subject findings.EndpointsFull = None
 subject findings.WaysFull = None
 subject findings.ServersFull = None
+subject findings.CyclesFull = None
 
 -- what fell due is about a call, a message, an offer, a subscription or an event
 abbrev pub subject_of_due : FellDue → Subject
@@ -96,6 +97,7 @@ subject_of_due (due.Missing told) = about_call told.key.service told.key.method 
 subject_of_due (due.Expired told) = about_service told.key.service
 subject_of_due (due.SubscribeUnanswered told) = about_service told.key.service
 subject_of_due (due.EventLost told) = about_event told.shown_by.service told.shown_by.event
+subject_of_due (due.Silent told) = about_event told.flow.service told.flow.event
 
 -- ---- which are told
 

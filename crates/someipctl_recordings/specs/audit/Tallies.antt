@@ -35,7 +35,7 @@ pub record Counts (t : Tally) (reports : List Report) (looked : Looked) : Type 0
   pub messages : t.messages ≡ looked.messages
   pub passed : t.passed ≡ looked.passed
   pub findings : t.findings ≡ length reports
-  pub size : length t.kinds ≡ 27
+  pub size : length t.kinds ≡ 28
   pub kinds : (kind : Kind) → slice_index t.kinds (kind_number kind) ≡ count_of kind reports
 
 -- ---- the text of what was counted

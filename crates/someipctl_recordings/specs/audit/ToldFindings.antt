@@ -190,8 +190,13 @@ finding_fields (findings.Segment h refusal) = field (codes " ") (codes "name") (
 finding_fields findings.EndpointsFull = full_fields (codes "endpoints")
 finding_fields findings.WaysFull = full_fields (codes "ways")
 finding_fields findings.ServersFull = full_fields (codes "servers")
+finding_fields findings.CyclesFull = full_fields (codes "cycles")
 
 -- ---- what fell due
+
+-- for how many milliseconds an event did not come
+abbrev pub silent_fields : EventFlow → ℕ → List ToldField
+silent_fields flow millis = field (codes " ") (codes "ms") (number millis) ∷ field (codes " ms ") (codes "service") (id flow.service) ∷ field (codes ".") (codes "event") (id flow.event) ∷ []
 
 -- what is told of it behind its kind
 abbrev pub due_fields : FellDue → List ToldField
@@ -200,6 +205,7 @@ due_fields (due.Missing told) = call_fields (codes " ") told.key.service told.ke
 due_fields (due.Expired told) = offer_fields told.key
 due_fields (due.SubscribeUnanswered told) = subscription_fields told.key
 due_fields (due.EventLost told) = event_fields told.shown_by.service told.shown_by.event ++ session_field told.key.session ∷ []
+due_fields (due.Silent told) = silent_fields told.flow told.silent_ms
 
 -- ---- lines
 

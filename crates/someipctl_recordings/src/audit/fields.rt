@@ -4,7 +4,7 @@ ghost use Rattle.someipctl_io.specs.ToldLines.{field, number, text};
 ghost use Rattle.someipctl_io.specs.ToldViews.{view_field};
 ghost use Rattle.someipctl_recordings.specs.audit.ToldFindings.{call_fields, error_fields, event_fields, expected_field};
 ghost use Rattle.someipctl_recordings.specs.audit.ToldFindings.{header_fields, instance_fields, interface_fields, last_field};
-ghost use Rattle.someipctl_recordings.specs.audit.ToldFindings.{offer_fields, session_field, subscription_fields};
+ghost use Rattle.someipctl_recordings.specs.audit.ToldFindings.{offer_fields, session_field, silent_fields, subscription_fields};
 
 use crate::heads::field_of;
 use audit_sd::offers::OfferKey;
@@ -157,4 +157,15 @@ pub(crate) fn expected_field(expected: u16) -> Field<'static>
     ensures { view_field result ≡ expected_field expected }
 {
     field_of(" expected ", "expected", Said::Id(expected))
+}
+
+/// For how many milliseconds an event of a flow did not come.
+pub(crate) fn silent_fields(flow: &EventFlow, millis: u64) -> [Field<'static>; 3]
+    ensures { map view_field result ≡ silent_fields flow.now millis }
+{
+    [
+        field_of(" ", "ms", Said::Number(millis as usize)),
+        field_of(" ms ", "service", Said::Id(flow.service)),
+        field_of(".", "event", Said::Id(flow.event)),
+    ]
 }

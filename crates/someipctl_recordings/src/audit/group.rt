@@ -92,7 +92,8 @@ pub(crate) fn kind_of(finding: &Finding) -> Kind
         }
         Finding::EventSession(flow, session, shown) => kind_of_event(flow, *session, shown),
         Finding::Segment(..) => Kind::Segments,
-        Finding::EndpointsFull | Finding::WaysFull | Finding::ServersFull => Kind::Full,
+        Finding::EndpointsFull | Finding::WaysFull | Finding::ServersFull | Finding::CyclesFull =>
+            Kind::Full,
     }
 }
 
@@ -178,5 +179,6 @@ pub(crate) fn kind_of_due(told: &FellDue) -> Kind
         FellDue::Expired(_) => Kind::OfferExpired,
         FellDue::SubscribeUnanswered(_) => Kind::SubscribeUnanswered,
         FellDue::EventLost(_) => Kind::EventGap,
+        FellDue::Silent(_) => Kind::Silent,
     }
 }

@@ -181,6 +181,7 @@ fn deadline_of(told: &FellDue) -> u64
         FellDue::Expired(told) => told.at,
         FellDue::SubscribeUnanswered(told) => told.at,
         FellDue::EventLost(told) => told.at,
+        FellDue::Silent(told) => told.at,
     }
 }
 
@@ -206,6 +207,11 @@ pub(crate) fn origin_of_due(told: &FellDue) -> Origin
             numbers: told.numbers,
             from: told.shown_by.sender,
             to: told.shown_by.receiver,
+        },
+        FellDue::Silent(told) => Origin {
+            numbers: told.numbers,
+            from: told.flow.sender,
+            to: told.flow.receiver,
         },
     }
 }

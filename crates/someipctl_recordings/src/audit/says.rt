@@ -14,7 +14,7 @@ ghost use Rattle.audit_rules.specs.declared.kind.Kind.TheVariants as kinds;
 use crate::audit::fields::{
     call_fields, error_fields, event_fields, event_session_fields, expected_field, header_fields,
     instance_fields, interface_fields, last_field, late_fields, offer_fields, segment_fields,
-    session_field, subscription_fields,
+    session_field, silent_fields, subscription_fields,
 };
 use crate::heads::field_of;
 use audit_rules::Kind;
@@ -97,6 +97,7 @@ pub(crate) fn put_finding<W: Write>(
         Finding::EndpointsFull => put_full(buffer, writer, head, "endpoints"),
         Finding::WaysFull => put_full(buffer, writer, head, "ways"),
         Finding::ServersFull => put_full(buffer, writer, head, "servers"),
+        Finding::CyclesFull => put_full(buffer, writer, head, "cycles"),
     }
 }
 
@@ -132,6 +133,10 @@ pub(crate) fn put_fallen<W: Write>(
         FellDue::EventLost(told) => {
             let fields = event_session_fields(&told.shown_by, told.key.session);
             put_said(buffer, writer, head, Kind::EventGap, &fields)
+        }
+        FellDue::Silent(told) => {
+            let fields = silent_fields(&told.flow, told.silent_ms);
+            put_said(buffer, writer, head, Kind::Silent, &fields)
         }
     }
 }

@@ -85,6 +85,7 @@ pub(crate) fn subject_of(finding: &Finding) -> Option<Subject>
         | Finding::Call(_, CallFinding::Full)
         | Finding::Event(_, receivers::Finding::Full)
         | Finding::EventSession(_, _, sequence::Finding::EventsFull | sequence::Finding::GapsFull)
+        | Finding::CyclesFull
         | Finding::EndpointsFull
         | Finding::WaysFull
         | Finding::ServersFull => None,
@@ -123,6 +124,7 @@ pub(crate) fn subject_of_due(told: &FellDue) -> Subject
         FellDue::Expired(told) => Subject::service(told.key.service),
         FellDue::SubscribeUnanswered(told) => Subject::service(told.key.service),
         FellDue::EventLost(told) => Subject::event(told.shown_by.service, told.shown_by.event),
+        FellDue::Silent(told) => Subject::event(told.flow.service, told.flow.event),
     }
 }
 

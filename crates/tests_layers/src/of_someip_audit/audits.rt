@@ -332,7 +332,7 @@ fn told_of_due(fell: &FellDue) -> Told {
         FellDue::Expired(_) => Expired,
         FellDue::SubscribeUnanswered(_) => SubscribeUnanswered,
         FellDue::EventLost(lost) if lost.key.session == 2 => Gap,
-        FellDue::EventLost(_) => Other,
+        FellDue::EventLost(_) | FellDue::Silent(_) => Other,
     }
 }
 
