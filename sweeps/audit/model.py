@@ -598,7 +598,7 @@ class Audit:
         number = self.asked_at(seen, deadline, standings)
         came = later is not None and (number is None or later.datagram.number < number)
         if number is not None and not came and not self.is_ended(seen, number, standings):
-            text = f" {deadline - seen.moment} ms {event_text(seen.value[0])}"
+            text = f" {event_text(seen.value[0])} for {deadline - seen.moment} ms"
             self.tell_due(seen, deadline, SILENCES, key, "silent", text, number)
 
     def asked_at(self, seen, deadline, standings):

@@ -16,7 +16,7 @@ use Rattle.someipctl_io.specs.declared.form.Form.TheVariants.{Json}
 use Rattle.someipctl_io.specs.Options.{protocol_text}
 use Rattle.someipctl_io.specs.JsonTexts.{items_text, json_text, key_text, other_items_text, other_members_text}
 use Rattle.someipctl_io.specs.OptionObjects.{endpoint_end, endpoint_members, load_members, named_option, option_items, option_json, raw_members}
-use Rattle.someipctl_io.specs.ToldLines.{Content, text, number, id, byte, bytes, flag, mark, nothing, address, endpoint, time, options, value, HasNumber, HaveNumbers, ToldField, ToldHead, ToldLine, begin_text, end_text, content_json, field_members, field_text, fields_text, line_json, line_text}
+use Rattle.someipctl_io.specs.ToldLines.{Content, text, number, millis, id, byte, bytes, flag, mark, nothing, address, endpoint, time, options, value, HasNumber, HaveNumbers, ToldField, ToldHead, ToldLine, begin_text, end_text, content_json, field_members, field_text, fields_text, line_json, line_text}
 use Rattle.someipctl_io.specs.ToldItems.{value_lines}
 use Rattle.someipctl_io.proofs.ValueLemmas.{value-numbers}
 use Rattle.someipctl_io.proofs.EscapeLemmas.{escape-hex, escape-hex2, escape-ipv4}
@@ -112,6 +112,7 @@ line-object head line =
 content-numbers : (c : Content) → HasNumber c → HasNumbers (content_json c)
 content-numbers (text t) h = tt
 content-numbers (number n) h = IsNumber-decimal n h
+content-numbers (millis n) h = IsNumber-decimal n h
 content-numbers (id n) h = tt
 content-numbers (byte n) h = tt
 content-numbers (bytes bs) h = tt

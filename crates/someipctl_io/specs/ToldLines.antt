@@ -28,6 +28,8 @@ use Rattle.someipctl_io.specs.ValueObjects.{FitIn64, value_json}
 pub data Content : Type 0 where
   text : List ℕ → Content
   number : ℕ → Content
+  -- so many milliseconds
+  millis : ℕ → Content
   -- 16 bits, and a byte
   id : ℕ → Content
   byte : ℕ → Content
@@ -71,6 +73,7 @@ field lead key content = record { lead = lead; key = key; content = content }
 abbrev pub content_text : Content → List ℕ
 content_text (text t) = t
 content_text (number n) = decimal n
+content_text (millis n) = decimal n ++ codes " ms"
 content_text (id n) = hex4 n
 content_text (byte n) = hex2 n
 content_text (bytes bs) = bytes_text bs
@@ -93,6 +96,7 @@ word_part (Some word) = codes " " ++ word
 abbrev pub content_json : Content → json.Json
 content_json (text t) = json.string t
 content_json (number n) = json.number (decimal n)
+content_json (millis n) = json.number (decimal n)
 content_json (id n) = json.string (hex4 n)
 content_json (byte n) = json.string (hex2 n)
 content_json (bytes bs) = json.string (encode_lower bs)
@@ -150,6 +154,7 @@ lines_text form head lines = flat_map (line_text form head) lines
 -- what is told has numbers that JSON has: of 64 bits
 abbrev pub HasNumber : Content → Type 0
 HasNumber (number n) = n < 2 ^ 64
+HasNumber (millis n) = n < 2 ^ 64
 HasNumber (options os) = ItemsHaveNumbers (option_items os)
 HasNumber (value f d) = FitIn64 d
 HasNumber (text t) = ⊤

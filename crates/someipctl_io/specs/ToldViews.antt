@@ -5,11 +5,12 @@ use Rattle.someipctl_io.specs.declared.told.Said.TheVariants as says
 use Rattle.someipctl_io.specs.declared.told.Field.{Field}
 use Rattle.someipctl_io.specs.declared.told.LineHead.{LineHead}
 use Rattle.someipctl_io.specs.declared.told.Line.{Line}
-use Rattle.someipctl_io.specs.ToldLines.{Content, text, number, id, byte, bytes, flag, mark, nothing, address, endpoint, time, ToldField, ToldHead, ToldLine}
+use Rattle.someipctl_io.specs.ToldLines.{Content, text, number, millis, id, byte, bytes, flag, mark, nothing, address, endpoint, time, ToldField, ToldHead, ToldLine}
 
 abbrev pub view_said : Said → Content
 view_said (says.Text t) = text t.now
 view_said (says.Number n) = number n
+view_said (says.Millis n) = millis n
 view_said (says.Id n) = id n
 view_said (says.Byte n) = byte n
 view_said (says.Bytes bs) = bytes bs.now

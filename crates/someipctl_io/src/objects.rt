@@ -98,6 +98,7 @@ fn put_said<W: Write>(
     match said {
         Said::Text(text) => put_quoted(buffer, writer, text),
         Said::Number(number) => put_parts(buffer, writer, &[Part::Number(number)]),
+        Said::Millis(millis) => put_parts(buffer, writer, &[Part::Number(millis)]),
         Said::Id(id) => put_parts(buffer, writer, &quoted_id(id)),
         Said::Byte(byte) => put_parts(buffer, writer, &quoted_byte(byte)),
         Said::Bytes(bytes) => put_parts(buffer, writer, &quoted_bytes(bytes)),

@@ -31,6 +31,8 @@ pub enum Said<'s> {
     Text(&'s str),
     /// A number in decimal digits.
     Number(usize),
+    /// So many milliseconds: plain with `ms` behind them.
+    Millis(usize),
     /// An ID of 16 bits as four lower-case hex digits.
     Id(u16),
     /// A byte as two lower-case hex digits.
@@ -249,6 +251,9 @@ fn put_plain_said<W: Write>(
     match said {
         Said::Text(text) => put_parts(buffer, writer, &[Part::Text(text)]),
         Said::Number(number) => put_parts(buffer, writer, &[Part::Number(number)]),
+        Said::Millis(millis) => put_parts(
+            buffer, writer, &[Part::Number(millis), Part::Text(" ms")],
+        ),
         Said::Id(id) => put_parts(buffer, writer, &[Part::Id(id)]),
         Said::Byte(byte) => put_parts(buffer, writer, &[Part::Byte(byte)]),
         Said::Bytes(bytes) => put_parts(buffer, writer, &[payload_part(bytes)]),

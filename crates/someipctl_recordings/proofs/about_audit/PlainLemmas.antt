@@ -166,8 +166,9 @@ finding-words findings.WaysFull = refl
 finding-words findings.ServersFull = refl
 finding-words findings.CyclesFull = refl
 
-silent-shape : (space n ms s dot e : List ℕ) → (space ++ n) ++ ((space ++ ms ++ space) ++ s) ++ (dot ++ e) ++ [] ≡ (space ++ n) ++ (space ++ ms) ++ (space ++ (s ++ dot ++ e)) ++ []
-silent-shape space n ms s dot e = simp (append_assoc, append-nil)
+silent-shape : (space s dot e word n ms : List ℕ)
+    → (space ++ s) ++ ((dot ++ e) ++ (((space ++ word ++ space) ++ (n ++ (space ++ ms))) ++ [])) ≡ (space ++ (s ++ dot ++ e)) ++ ((space ++ word) ++ ((space ++ n) ++ ((space ++ ms) ++ [])))
+silent-shape space s dot e word n ms = simp (append_assoc, append-nil)
 
 due-words : (told : FellDue) → fields_text Plain (due_fields told) ≡ spaced (said_of_due told).words
 due-words (due.Unanswered told) = call-words [] told.call.service told.call.method told.call.client told.call.session
@@ -175,7 +176,7 @@ due-words (due.Missing told) = call-words [] told.key.service told.key.method to
 due-words (due.Expired told) = offer-plain told.key
 due-words (due.SubscribeUnanswered told) = subscription-plain told.key
 due-words (due.EventLost told) = repeated-shape (codes " ") (hex4 told.shown_by.service) (codes ".") (hex4 told.shown_by.event) (codes "session") (hex4 told.key.session)
-due-words (due.Silent told) = silent-shape (codes " ") (decimal told.silent_ms) (codes "ms") (hex4 told.flow.service) (codes ".") (hex4 told.flow.event)
+due-words (due.Silent told) = silent-shape (codes " ") (hex4 told.flow.service) (codes ".") (hex4 told.flow.event) (codes "for") (decimal told.silent_ms) (codes "ms")
 
 -- ---- lines
 

@@ -148,4 +148,4 @@ said_of_due (due.Missing told) = says kinds.SegmentsMissing (call_words told.key
 said_of_due (due.Expired told) = says kinds.OfferExpired (offer_words told.key)
 said_of_due (due.SubscribeUnanswered told) = says kinds.SubscribeUnanswered (subscription_words told.key)
 said_of_due (due.EventLost told) = says kinds.EventGap (ids_text told.shown_by.service told.shown_by.event ∷ codes "session" ∷ hex4 told.key.session ∷ [])
-said_of_due (due.Silent told) = says kinds.Silent (decimal told.silent_ms ∷ codes "ms" ∷ ids_text told.flow.service told.flow.event ∷ [])
+said_of_due (due.Silent told) = says kinds.Silent (ids_text told.flow.service told.flow.event ∷ codes "for" ∷ decimal told.silent_ms ∷ codes "ms" ∷ [])

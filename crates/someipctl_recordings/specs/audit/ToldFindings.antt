@@ -28,7 +28,7 @@ use Rattle.someip_audit.specs.declared.Finding.TheVariants as findings
 use Rattle.someip_audit.specs.declared.ServiceInstance.{ServiceInstance}
 use Rattle.someip_audit.specs.declared.FellDue.{FellDue}
 use Rattle.someip_audit.specs.declared.FellDue.TheVariants as due
-use Rattle.someipctl_io.specs.ToldLines.{text, number, id, byte, endpoint, mark, ToldField, ToldHead, ToldLine, field}
+use Rattle.someipctl_io.specs.ToldLines.{text, number, millis, id, byte, endpoint, mark, ToldField, ToldHead, ToldLine, field}
 use Rattle.someipctl_io.specs.ToldItems.{datagram_field}
 use Rattle.someipctl_recordings.specs.Origins.{frame_field, said_of_time}
 use Rattle.audit_rules.specs.declared.kind.Kind.{Kind}
@@ -196,7 +196,7 @@ finding_fields findings.CyclesFull = full_fields (codes "cycles")
 
 -- for how many milliseconds an event did not come
 abbrev pub silent_fields : EventFlow → ℕ → List ToldField
-silent_fields flow millis = field (codes " ") (codes "ms") (number millis) ∷ field (codes " ms ") (codes "service") (id flow.service) ∷ field (codes ".") (codes "event") (id flow.event) ∷ []
+silent_fields flow silent_ms = event_fields flow.service flow.event ++ field (codes " for ") (codes "ms") (millis silent_ms) ∷ []
 
 -- what is told of it behind its kind
 abbrev pub due_fields : FellDue → List ToldField

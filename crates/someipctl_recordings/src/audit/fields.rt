@@ -159,13 +159,10 @@ pub(crate) fn expected_field(expected: u16) -> Field<'static>
     field_of(" expected ", "expected", Said::Id(expected))
 }
 
-/// For how many milliseconds an event of a flow did not come.
-pub(crate) fn silent_fields(flow: &EventFlow, millis: u64) -> [Field<'static>; 3]
-    ensures { map view_field result ≡ silent_fields flow.now millis }
+/// An event of a flow, and for how many milliseconds it did not come.
+pub(crate) fn silent_fields(flow: &EventFlow, silent_ms: u64) -> [Field<'static>; 3]
+    ensures { map view_field result ≡ silent_fields flow.now silent_ms }
 {
-    [
-        field_of(" ", "ms", Said::Number(millis as usize)),
-        field_of(" ms ", "service", Said::Id(flow.service)),
-        field_of(".", "event", Said::Id(flow.event)),
-    ]
+    let [service, event] = event_fields(flow.service, flow.event);
+    [service, event, field_of(" for ", "ms", Said::Millis(silent_ms as usize))]
 }
