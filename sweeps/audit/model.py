@@ -49,7 +49,6 @@ class Rules(NamedTuple):
         number = self.first(header.service, header.method)
         return self.answer if number is None else self.bench[number].get("answer_ms", self.answer)
 
-
     def cycle_of(self, header):
         number = self.first(header.service, header.method)
         return None if number is None else self.bench[number].get("cycle_ms")
@@ -576,7 +575,6 @@ class Audit:
                 return True
         passed = [standing.passed for standing in standings if concerns(*standing.key[:2], seen)]
         return any(last.moment < moment <= seen.moment for moment in passed if moment is not None)
-
 
     # ---- Events that come in cycles
 

@@ -124,6 +124,7 @@ MORE = [
     "audit --ports 30509 --group examples/taps/one.pcapng",
     "audit --frames --rules examples/rules/known.toml examples/audit.pcap",
     "audit --group --rules examples/rules/strict.toml examples/audit.pcap",
+    "audit --rules examples/rules/cycles.toml examples/audit.pcap",
     "services --from 1700000018.5 examples/audit.pcap",
     "run --lines examples/runs/two.toml examples/runs/reboot.txt",
     "run --lines examples/runs/two.toml examples/runs/old_answer.txt",
