@@ -97,6 +97,7 @@ FOUND = {
     **dict.fromkeys(("unanswered", "unasked", "repeated", "key-reused", "not-offered", "segments-missing"), call),
     **dict.fromkeys(("event-repeated", "event-overtaken", "event-gap"), event_session),
     "event-unsubscribed": lambda line: ids(line, "event"),
+    "silent": lambda line: f"{ids(line, 'event')} for {line['ms']} ms",
     "interface": lambda line: f"{line['interface']} expected {line['expected']} {ids(line, 'method')}",
     "segments": lambda line: f"{line['name']} {call(line)}",
     **dict.fromkeys(("offer-expired", "offer-moved"), offer),
