@@ -204,6 +204,23 @@ def expiring(count):
                     for number in range(count)]
 
 
+# ---- Events that come in cycles
+
+def silent_events(count):
+    """Many events to one endpoint that is subscribed, none of which comes again."""
+    found = offered() + [discovery(B, A, 1, [wire.Entry(6, 1, 1, 1, FOREVER, 0, 1, CLIENT)])]
+    found += joined(SERVER, CLIENT, [event(1, 1, number) for number in range(count)])
+    return found + [wire.Record(10 * SECOND, SERVER, CLIENT, event(1, 2))]
+
+
+def stops_of_watches(count):
+    """An event to each of many endpoints that are subscribed, and then a StopSubscribe of each."""
+    found, ends = subscribed_apart(count)
+    found = offered() + found + [wire.Record(0, SERVER, end, event(1)) for end in ends]
+    return found + [discovery(node(number), A, 2, [wire.Entry(6, 1, 1, 1, 0, 0, 1, end)], 0x40)
+                    for number, end in enumerate(ends)]
+
+
 # ---- Others
 
 def calls(count):
@@ -247,7 +264,10 @@ BOOKS = named(
     event_receivers, event_changes, event_changes_at_once, event_withdrawals, reboots, reboots_of_offers,
     reboots_of_subscribes, reboots_of_clients, reboots_of_servers, reboots_of_senders, reboots_of_receivers,
     events_to_subscriptions, events_to_nobody, subscribes_after_told, withdrawals_of_subscriptions, stops_of_subscriptions,
-    expiring, calls, gaps, ways, offers)
+    expiring, silent_events, stops_of_watches, calls, gaps, ways, offers)
+
+# The rules by which some are audited.
+RULES = dict.fromkeys(("silent events", "stops of watches"), "[[rule]]\ncycle_ms = 1000\n")
 
 # What is told of each key, or of nearly each: by this it is seen that the hits are hits.
 TOLD = {
@@ -255,4 +275,5 @@ TOLD = {
     "reboots of servers": "reboot", "reboots of senders": "reboot", "reboots of receivers": "reboot",
     "events to nobody": "event unsubscribed", "subscribes after told": "event unsubscribed",
     "expiring": "event unsubscribed", "calls": "unanswered", "gaps": "event overtaken",
+    "silent events": "silent",
 }

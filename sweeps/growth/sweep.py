@@ -23,9 +23,9 @@ MOST, MOST_BY_TIME = 2.3, 3.2
 VALGRIND = shutil.which("valgrind")
 
 
-def instructions(program, path):
+def instructions(call):
     """The instructions of an audit."""
-    run = subprocess.run([VALGRIND, "--tool=callgrind", "--callgrind-out-file=/dev/null", program, "audit", path],
+    run = subprocess.run([VALGRIND, "--tool=callgrind", "--callgrind-out-file=/dev/null", *call],
                          stdout=subprocess.DEVNULL, stderr=subprocess.PIPE, text=True, check=False)
     counted = re.search(r"Collected : (\d+)", run.stderr)
     if run.returncode not in (0, 1) or not counted:
@@ -33,24 +33,24 @@ def instructions(program, path):
     return int(counted[1])
 
 
-def user_time(program, path):
+def user_time(call):
     """The least user time of three audits, in seconds."""
     times = []
     for _ in range(3):
         before = resource.getrusage(resource.RUSAGE_CHILDREN).ru_utime
-        run = subprocess.run([program, "audit", path], stdout=subprocess.DEVNULL, stderr=subprocess.PIPE, check=False)
+        run = subprocess.run(call, stdout=subprocess.DEVNULL, stderr=subprocess.PIPE, check=False)
         if run.returncode not in (0, 1):
             raise RuntimeError(f"status {run.returncode}: {run.stderr[-300:]}")
         times.append(resource.getrusage(resource.RUSAGE_CHILDREN).ru_utime - before)
     return min(times)
 
 
-def look_at(program, path, name, keys):
+def look_at(call, name, keys):
     """Raises an error where what is to be told of each key is told of fewer."""
     kind = books.TOLD.get(name)
     if kind is None:
         return
-    run = subprocess.run([program, "audit", path], stdout=subprocess.PIPE, stderr=subprocess.DEVNULL, text=True, check=False)
+    run = subprocess.run(call, stdout=subprocess.PIPE, stderr=subprocess.DEVNULL, text=True, check=False)
     told = re.search(rf"^{kind} (\d+)$", run.stdout, re.M)
     if not told or int(told[1]) < keys * 15 // 16:
         raise RuntimeError(f"{name}: of {keys} keys too few show {kind}")
@@ -60,8 +60,13 @@ def cost(program, room, name, keys):
     path = os.path.join(room, f"{name.replace(' ', '-')}.{keys}")
     with open(path, "wb") as out:
         out.write(wire.pcap(books.BOOKS[name](keys), nanoseconds=True))
-    look_at(program, path, name, keys)
-    found = instructions(program, path) if VALGRIND else user_time(program, path)
+    call = [program, "audit", path]
+    if name in books.RULES:
+        with open(path + ".toml", "w", encoding="utf8") as out:
+            out.write(books.RULES[name])
+        call[2:2] = ["--rules", path + ".toml"]
+    look_at(call, name, keys)
+    found = instructions(call) if VALGRIND else user_time(call)
     os.remove(path)
     return found
 
