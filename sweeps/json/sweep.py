@@ -80,13 +80,13 @@ class Sweep:
         self.findings += 1
         print(f"json: {' '.join(words)}: {what}")
 
-    def run(self, words):
-        ended = subprocess.run([self.program, *words], cwd=DATA, capture_output=True, timeout=60)
+    def run(self, room, words):
+        ended = subprocess.run([self.program, *words], cwd=room, capture_output=True, timeout=60)
         return ended.returncode, ended.stdout.decode("utf8").splitlines(), ended.stderr
 
-    def judge(self, command, *words):
+    def judge(self, room, command, *words):
         self.cases += 1
-        plain, objects = self.run([command, *words]), self.run([command, "--json", *words])
+        plain, objects = self.run(room, [command, *words]), self.run(room, [command, "--json", *words])
         call = [command, *words]
         if (plain[0], plain[2]) != (objects[0], objects[2]):
             return self.tell(call, f"status {objects[0]}, and plain {plain[0]}")
@@ -115,7 +115,7 @@ class Sweep:
         return None
 
 
-# Further calls, whose cases the trials do not have.
+# Further calls, whose cases the trials do not have. They are made beside `examples`.
 MORE = [
     "recording --frames --endpoints --whole --types examples/speed.toml examples/whole.pcap",
     "recording --frames --endpoints --whole --types examples/types.toml examples/route.pcap",
@@ -132,19 +132,19 @@ MORE = [
 
 
 def calls():
-    """The calls among the cases of the trials that print lines, and read no standard input; and more."""
+    """The calls among the cases of the trials that print lines, and read no standard input; and more. Each with its folder."""
     with open(f"{DATA}/cases", encoding="utf8") as file:
         lines = file.read().splitlines()
-    for line in [*lines, *MORE]:
+    for room, line in [*((DATA, line) for line in lines), *((TOP, line) for line in MORE)]:
         words = line.split()
         if words and words[0] in PLAIN and not {"--json", "-", "--expect", "--begins"} & set(words):
-            yield words
+            yield room, words
 
 
 def main():
     sweep = Sweep(sys.argv[1])
-    for words in calls():
-        sweep.judge(*words)
+    for room, words in calls():
+        sweep.judge(room, *words)
     told_by = "no finding" if not sweep.findings else f"{sweep.findings} findings"
     print(f"json: {sweep.cases} calls, {sweep.lines} lines: {told_by}")
     sys.exit(1 if sweep.findings else 0)
