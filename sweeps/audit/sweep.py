@@ -23,9 +23,9 @@ Recordings: what they are; what is expected
     still or are not there, with packets that are no datagrams, and with drawn options; what the model tells
   1000 `ruled`: drawn as those, with drawn rules: of services and methods, with times of answers, kinds that are allowed
     and kinds of which only so many may come; what the model tells, and the exit status
-  13 `crowds`: a table of an audit comes to its limit of 65,536 keys, one for each table; and calls that were answered
-    fill theirs, in one that goes on while they are known, and in one that goes on when they no longer are; `full
-    NAME` at the first thing that finds no room, and nothing else
+  13 `crowds`: a table of an audit comes to its limit of 65,536 keys, one for each table but `cycles`; and calls that
+    were answered fill theirs, in one that goes on while they are known, and in one that goes on when they no longer
+    are; `full NAME` at the first thing that finds no room, and nothing else
   the example: `examples/audit.pcap`, as `sweeps/audit/story.py` writes it; `examples/audit.txt`
 
 The nodes of a run are parted into twenty *worlds*, each of which hears nothing of the others and gives a recording.
