@@ -252,7 +252,9 @@ fn put_plain_said<W: Write>(
         Said::Text(text) => put_parts(buffer, writer, &[Part::Text(text)]),
         Said::Number(number) => put_parts(buffer, writer, &[Part::Number(number)]),
         Said::Millis(millis) => put_parts(
-            buffer, writer, &[Part::Number(millis), Part::Text(" ms")],
+            buffer,
+            writer,
+            &[Part::Number(millis), Part::Text(" ms")],
         ),
         Said::Id(id) => put_parts(buffer, writer, &[Part::Id(id)]),
         Said::Byte(byte) => put_parts(buffer, writer, &[Part::Byte(byte)]),

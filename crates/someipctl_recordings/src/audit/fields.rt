@@ -164,5 +164,9 @@ pub(crate) fn silent_fields(flow: &EventFlow, silent_ms: u64) -> [Field<'static>
     ensures { map view_field result ≡ silent_fields flow.now silent_ms }
 {
     let [service, event] = event_fields(flow.service, flow.event);
-    [service, event, field_of(" for ", "ms", Said::Millis(silent_ms as usize))]
+    [
+        service,
+        event,
+        field_of(" for ", "ms", Said::Millis(silent_ms as usize)),
+    ]
 }
