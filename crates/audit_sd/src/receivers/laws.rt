@@ -12,7 +12,7 @@ ghost use Rattle.audit_sd.specs.declared.receivers.entry.ReceiverEntry.{Receiver
 ghost use Rattle.audit_sd.specs.declared.receivers.finding.Finding.TheVariants.{Full, Unsubscribed};
 ghost use Rattle.audit_sd.specs.receivers.ReceiverRules.{goes_by};
 ghost use Rattle.audit_sd.specs.receivers.ReceiverTables.{Receivers, Subscriptions, after_entry, after_event};
-ghost use Rattle.audit_sd.specs.receivers.ReceiverTables.{is_passed_over, is_subscribed, told_by};
+ghost use Rattle.audit_sd.specs.receivers.ReceiverTables.{ends, is_passed_over, is_subscribed, told_by};
 ghost use Rattle.audit_sd.specs.receivers.ReceiverTables.{told_of_event, without_expired};
 ghost use Rattle.audit_sd.specs.receivers.ReceiverHistories.{Event, Shown, book_after, book_of, shown_by};
 ghost use Rattle.audit_sd.specs.receivers.ReceiverHistories.{standing_in};
@@ -94,6 +94,25 @@ pub fn events_are_told()
     ensures for_another { shown_by 50
         (comes 100 (subscribe 2 40000 3) ∷ goes 60 (delivery 9 4096 1 40000) ∷ []) 3100
         (delivery 9 4096 1 40000) ≡ None }
+{}
+
+/// Which entries end a subscription that stands, by example: node 1 subscribed with its port 40000. A StopSubscribe, a
+/// Nack and a Subscribe with another endpoint do; a renewal, an Ack, a Subscribe of another client and one without an
+/// endpoint do not. Where nothing stands a Subscribe ends nothing.
+pub fn subscriptions_end()
+    ensures stopped { (book : Receivers) → ends (subscribe 1 40000 0) book ≡ true }
+    ensures nacked { (book : Receivers) → ends (answer 1 0) book ≡ true }
+    ensures moved { (book : Receivers) → finite.get book.standing (subscription 1) ≡ Some (stands 1 40000 3100)
+        → ends (subscribe 1 40001 3) book ≡ true }
+    ensures to_another_node { (book : Receivers) → finite.get book.standing (subscription 1) ≡ Some (stands 2 40000 3100)
+        → ends (subscribe 1 40000 3) book ≡ true }
+    ensures renewed { (book : Receivers) → finite.get book.standing (subscription 1) ≡ Some (stands 1 40000 3100)
+        → ends (subscribe 1 40000 5) book ≡ false }
+    ensures acked { (book : Receivers) → finite.get book.standing (subscription 1) ≡ Some (stands 1 40000 3100)
+        → ends (answer 1 5) book ≡ false }
+    ensures another_client { (book : Receivers) → finite.get book.standing (subscription 2) ≡ None
+        → ends (subscribe 2 40001 3) book ≡ false }
+    ensures without_endpoint { (book : Receivers) → ends (record (subscribe 1 40000 3) { endpoint = None }) book ≡ false }
 {}
 
 /// A book that was never full, and dropped before each event what had expired, holds exactly the

@@ -10,7 +10,7 @@ use Rattle.audit_traffic.specs.events.FlowKeys.{flow_cmp}
 use Rattle.audit_traffic.specs.events.FlowOrder.{exact_flows, flows_total}
 use Rattle.audit_traffic.specs.cycles.CycleRules.{goes_by, is_of_service, is_silent_by, unless_silent, watch_from}
 use Rattle.audit_traffic.specs.cycles.CycleTables.{Cycles, Watches}
-use Rattle.audit_traffic.specs.cycles.CycleHistories.{BeganAgain, Came, Shown, Step, Unsubscribed, Withdrawn, after_step, book_after, book_of, watched_in, without_silent}
+use Rattle.audit_traffic.specs.cycles.CycleHistories.{Asked, BeganAgain, Came, Shown, Step, Unsubscribed, Withdrawn, after_step, book_after, book_of, watched_in, without_silent}
 
 -- ---- whether it is full
 
@@ -26,6 +26,7 @@ full_after now (Came flow cycle_ms numbers) book is = cases (may_hold book.limit
 full_after now (Unsubscribed server service client) book is = is
 full_after now (Withdrawn server service) book is = is
 full_after now (BeganAgain address) book is = is
+full_after now Asked book is = is
 
 not_before : (now : ℕ) (shown : Shown) (book : Cycles) → (book_after now shown book).told_full ≡ false → book.told_full ≡ false
 not_before now shown book fits = cases book.told_full refl
@@ -40,8 +41,11 @@ turned : (b : Bool) (v : Option Watch) → cond (not b) v None ≡ cond b None v
 turned true v = refl
 turned false v = refl
 
-ended : (ends : EventFlow → Bool) (m : Watches) (flow : EventFlow) → finite.get (finite.retain_keys m (λ f. not (ends f))) flow ≡ cond (ends flow) None (finite.get m flow)
+pub ended : (ends : EventFlow → Bool) (m : Watches) (flow : EventFlow) → finite.get (finite.retain_keys m (λ f. not (ends f))) flow ≡ cond (ends flow) None (finite.get m flow)
 ended ends m flow = finite.get-retain_keys m (λ f. not (ends f)) flow (λ x tie. ap (λ f. not (ends f)) (sym (exact_flows flow x tie))) ∙ turned (ends flow) (finite.get m flow)
+
+pub left : (now : ℕ) (book : Cycles) (flow : EventFlow) → finite.get (without_silent now book).watched flow ≡ unless_silent now (finite.get book.watched flow)
+left now book flow = get-retain flows_total exact_flows book.watched (λ _ watch. not (is_silent_by now watch)) flow
 
 get-after : (now : ℕ) (shown : Shown) (book : Cycles) (flow : EventFlow) → (book_after now shown book).told_full ≡ false
     → finite.get (book_after now shown book).watched flow ≡ after_step now shown flow (finite.get book.watched flow)
@@ -54,15 +58,12 @@ get-after now (Came other cycle_ms numbers) book flow fits = cases (may_hold boo
 get-after now (Unsubscribed server service client) book flow fits = ended (goes_by server service client) book.watched flow
 get-after now (Withdrawn server service) book flow fits = ended (is_of_service server service) book.watched flow
 get-after now (BeganAgain address) book flow fits = ended (is_at address) book.watched flow
+get-after now Asked book flow fits = left now book flow
 
 -- ---- all steps
-
-left : (now : ℕ) (book : Cycles) (flow : EventFlow) → finite.get (without_silent now book).watched flow ≡ unless_silent now (finite.get book.watched flow)
-left now book flow = get-retain flows_total exact_flows book.watched (λ _ watch. not (is_silent_by now watch)) flow
 
 pub watched : (limit : ℕ) (steps : List Step) (flow : EventFlow) → (book_of limit steps).told_full ≡ false → finite.get (book_of limit steps).watched flow ≡ watched_in steps flow
 watched limit [] flow fits = finite.get-empty flow_cmp flow
 watched limit (step ∷ earlier) flow fits =
-    get-after step.at step.shown (without_silent step.at (book_of limit earlier)) flow fits
-    ∙ ap (after_step step.at step.shown flow)
-    (left step.at (book_of limit earlier) flow ∙ ap (unless_silent step.at) (watched limit earlier flow (not_before step.at step.shown (without_silent step.at (book_of limit earlier)) fits)))
+    get-after step.at step.shown (book_of limit earlier) flow fits
+    ∙ ap (after_step step.at step.shown flow) (watched limit earlier flow (not_before step.at step.shown (book_of limit earlier) fits))

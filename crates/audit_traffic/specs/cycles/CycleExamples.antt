@@ -3,7 +3,7 @@ use Rattle.std.specs.Prelude.{ℕ, List, Option, option_map}
 use Rattle.someip_tables.specs.declared.hashed.origin.Numbers.{Numbers}
 use Rattle.audit_traffic.specs.declared.cycles.watch.Watch.{Watch}
 use Rattle.audit_traffic.specs.events.EventExamples.{flow_to, node}
-use Rattle.audit_traffic.specs.cycles.CycleHistories.{BeganAgain, Came, Step, Unsubscribed, Withdrawn, watched_in}
+use Rattle.audit_traffic.specs.cycles.CycleHistories.{Asked, BeganAgain, Came, Step, Unsubscribed, Withdrawn, watched_in}
 
 -- the numbers of a datagram
 abbrev pub numbers : Numbers
@@ -15,6 +15,10 @@ comes moment to = record { at = moment; shown = Came (flow_to 0x8001 (node to)) 
 
 abbrev pub another_comes : ℕ → ℕ → Step
 another_comes moment to = record { at = moment; shown = Came (flow_to 0x8002 (node to)) 100 numbers }
+
+-- the book is asked until nothing is left that has fallen silent
+abbrev pub asked : ℕ → Step
+asked moment = record { at = moment; shown = Asked }
 
 -- a subscription of a node ends, an offer of a service is withdrawn, a node begins again
 abbrev pub unsubscribed : ℕ → ℕ → ℕ → Step

@@ -1,5 +1,5 @@
 -- The flows that are watched.
-use Rattle.std.specs.Prelude.{◌≡◌, ◌≤◌, ℕ, Bool, true, false, not, if◌then◌else◌, Option, None, Some, refl}
+use Rattle.std.specs.Prelude.{◌≡◌, ◌≤◌, ℕ, Bool, true, false, not, if◌then◌else◌, List, [], ◌∷◌, Option, None, Some, refl}
 use Rattle.std.specs.Coded.{Coded, code_by, coded×, coded_ℕ, coded_bool}
 use Rattle.std.specs.FinMap as finite
 use Rattle.std.specs.FinMap.{FinMap}
@@ -64,6 +64,11 @@ FallsSilent now watched (Some told) =
 abbrev pub after_silent : Option SilentEvent → Cycles → Cycles
 after_silent None book = book
 after_silent (Some told) book = record book { watched = finite.remove book.watched told.flow }
+
+-- what is told once a moment came, where a book is asked until nothing is left, and the book then
+abbrev pub Tells : ℕ → Cycles → List SilentEvent → Cycles → Type 0
+Tells now book [] after = FallsSilent now book.watched None × (after ≡ book)
+Tells now book (told ∷ others) after = FallsSilent now book.watched (Some told) × Tells now (after_silent (Some told) book) others after
 
 -- ---- codes, by which a proof tells values apart
 
