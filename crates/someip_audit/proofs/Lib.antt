@@ -7,3 +7,6 @@ pub mod NextLemmas
 pub mod LearningLemmas
 pub mod about_groups
 pub mod SilenceLemmas
+pub mod CycleStepLemmas
+pub mod AskedLemmas
+pub mod RunLemmas

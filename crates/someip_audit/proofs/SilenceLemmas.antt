@@ -38,35 +38,43 @@ was_so at (Some a) (Some e) is = cases (nat_le e a) refl is
 
 -- ---- subscriptions that have passed by a moment
 
-module _ (at : ℕ) (end : Option ℕ) (standing : Subscriptions) (from : HoldsFrom end (λ now. expired now standing ≢ finite.empty)) where
-  none_is_some : (l : Lasting SocketAddrV4) → None ≡ Some l → ⊥
-  none_is_some l is = cc
+none_is_some : (l : Lasting SocketAddrV4) → None ≡ Some l → ⊥
+none_is_some l is = cc
 
+module _ (at : ℕ) (standing : Subscriptions) where
   some_expired : (key : SubscriptionKey) (lasting : Lasting SocketAddrV4) → finite.get standing key ≡ Some lasting → has_passed at lasting.until ≡ true → expired at standing ≢ finite.empty
   some_expired key lasting has passed none =
       let there : finite.get (expired at standing) key ≡ Some lasting =
       get-expired subscriptions_total exact_subscriptions at standing key ∙ ap (kept_if (λ x. has_passed at x.until)) has ∙ ap (λ b. cond b (Some lasting) None) passed in
       none_is_some lasting (sym (ap (λ m. finite.get m key) none ∙ finite.get-empty subscription_cmp key) ∙ there)
 
-  pub none_passed : is_due_by at end ≡ false → NonePassed at standing
-  none_passed later key lasting has = cases (has_passed at lasting.until) refl
+  pub where_none_expired : expired at standing ≡ finite.empty → NonePassed at standing
+  where_none_expired none key lasting has = cases (has_passed at lasting.until) refl
     where
       cases : (b : Bool) → has_passed at lasting.until ≡ b → b ≡ false
       cases false is = refl
-      cases true is = let come : is_due_by at end ≡ true = (from at).1 (some_expired key lasting has is) in absurd (cc)
+      cases true is = absurd (some_expired key lasting has is none)
 
-  pub ended_not : NonePassed at standing → is_due_by at end ≡ false
-  ended_not none = cases (is_due_by at end) refl
+  pub none_expired : NonePassed at standing → expired at standing ≡ finite.empty
+  none_expired none =
+      finite.same_map subscriptions_total exact_subscriptions _ _
+      (λ key. get-expired subscriptions_total exact_subscriptions at standing key ∙ by key (finite.get standing key) refl ∙ sym (finite.get-empty subscription_cmp key))
     where
       by : (key : SubscriptionKey) (v : Option (Lasting SocketAddrV4)) → finite.get standing key ≡ v → kept_if (λ (x : Lasting SocketAddrV4). has_passed at x.until) v ≡ None
       by key None has = refl
       by key (Some lasting) has = ap (λ b. cond b (Some lasting) None) (none key lasting has)
 
-      nothing : expired at standing ≡ finite.empty
-      nothing =
-          finite.same_map subscriptions_total exact_subscriptions _ _
-          (λ key. get-expired subscriptions_total exact_subscriptions at standing key ∙ by key (finite.get standing key) refl ∙ sym (finite.get-empty subscription_cmp key))
+module _ (at : ℕ) (end : Option ℕ) (standing : Subscriptions) (from : HoldsFrom end (λ now. expired now standing ≢ finite.empty)) where
+  pub none_passed : is_due_by at end ≡ false → NonePassed at standing
+  none_passed later key lasting has = cases (has_passed at lasting.until) refl
+    where
+      cases : (b : Bool) → has_passed at lasting.until ≡ b → b ≡ false
+      cases false is = refl
+      cases true is = let come : is_due_by at end ≡ true = (from at).1 (some_expired at standing key lasting has is) in absurd (cc)
 
+  pub ended_not : NonePassed at standing → is_due_by at end ≡ false
+  ended_not none = cases (is_due_by at end) refl
+    where
       cases : (b : Bool) → is_due_by at end ≡ b → b ≡ false
       cases false is = refl
-      cases true is = absurd ((from at).0 is nothing)
+      cases true is = absurd ((from at).0 is (none_expired at standing none))

@@ -9,4 +9,5 @@ pub mod MessageShown
 pub mod AnyShown
 pub mod Learning
 pub mod Audits
+pub mod CycleSteps
 pub mod groups

@@ -11,6 +11,7 @@ use Rattle.someip_wire.specs.declared.header.Header.{Header}
 use Rattle.someip_wire.specs.declared.header.MessageType.{MessageType}
 use Rattle.someip_wire.specs.declared.header.MessageType.TheVariants as kinds
 use Rattle.someip_tables.specs.declared.deadline.Deadline.TheVariants.{At}
+use Rattle.audit_traffic.specs.declared.events.flow.EventFlow.{EventFlow}
 use Rattle.audit_traffic.specs.calls.Scenes.{call_5, header_with, numbered}
 use Rattle.audit_sd.specs.offers.OfferExamples.{endpoint, from_node, service}
 use Rattle.audit_sd.specs.subscriptions.SubscribeExamples as subscribes
@@ -62,6 +63,26 @@ offer_due id at = due.Expired (record { at = at; key = service id; offer = recor
 -- the Subscribe of node 1 that had no answer until a moment
 abbrev pub subscribe_due : ℕ → FellDue
 subscribe_due at = due.SubscribeUnanswered (record { at = at; key = subscribes.subscription 1 0; origin = subscribes.datagram 4 1 9 })
+
+-- the message of which segments were missing at a moment
+abbrev pub missing_due : ℕ → FellDue
+missing_due at = due.Missing (record {
+  key = record { source = endpoint 9 40000; destination = endpoint 1 40000; service = 4096; method = 0x8001; client = 0; session = 1; interface = 1; kind = kinds.Notification; code = record { 0 = 0 } };
+  numbers = numbered 7;
+  until = at;
+})
+
+-- the event with this ID, from node 9 to node 1
+abbrev pub event_of : ℕ → EventFlow
+event_of event = record { sender = endpoint 9 40000; service = 4096; event = event; receiver = endpoint 1 40000 }
+
+-- its session 3 that did not come until a moment
+abbrev pub lost_due : ℕ → FellDue
+lost_due at = due.EventLost (record { at = at; key = record { sender = endpoint 9 40000; service = 4096; event = 0x8001; session = 3 }; shown_by = event_of 0x8001; numbers = numbered 7 })
+
+-- the event with this ID that was silent at a moment, with a cycle of 100 milliseconds
+abbrev pub silent_due : ℕ → ℕ → FellDue
+silent_due event at = due.Silent (record { at = at; flow = event_of event; silent_ms = 300; numbers = numbered 7 })
 
 -- the header of a message of Service Discovery
 abbrev pub sd_header : Header

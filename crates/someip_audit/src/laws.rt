@@ -37,19 +37,25 @@ ghost use Rattle.someip_audit.specs.MessageShown.{message_shown, server_message,
 ghost use Rattle.someip_audit.specs.MessageShown.{way_shown};
 ghost use Rattle.audit_traffic.specs.ways.WayTables.{after_message};
 ghost use Rattle.someip_audit.specs.SdEntries.{names_endpoint, offer_entry, subscribe_entry, withdrawn_offer};
-ghost use Rattle.someip_audit.specs.SdScenes.{call_due, group_entry, offer_due, sd_header, service_entry};
+ghost use Rattle.someip_audit.specs.SdScenes.{call_due, group_entry, lost_due, missing_due, offer_due, sd_header, service_entry, silent_due};
 ghost use Rattle.someip_audit.specs.SdScenes.{coded, group_without, instance_1, subscribe_due, with_endpoint, without_endpoint};
 ghost use Rattle.someip_audit.specs.SdShown.{Work, after_session, begun_again, endpoint_shown, entry_shown, group_shown, group_taken};
 ghost use Rattle.someip_audit.specs.SdShown.{ended_shown, head_shown, offer_shown, server_shown};
 ghost use Rattle.someip_audit.specs.SdShown.{told_of_options, withdrawn};
 
-/// In which order what fell due is told, by example: by deadline; at one deadline calls, then offers, then
-/// Subscribes; and of one book by key.
+/// In which order what fell due is told, by example: by deadline; at one deadline calls, then segments, then
+/// offers, then Subscribes, then sessions of events, then silent events; and of one book by key.
 pub fn what_fell_due_is_told_in_order()
     ensures sooner { is_lt (fell_cmp (subscribe_due 2000) (call_due 2001)) ≡ true }
     ensures later { is_lt (fell_cmp (call_due 2001) (subscribe_due 2000)) ≡ false }
     ensures calls_first { is_lt (fell_cmp (call_due 2000) (offer_due 4096 2000)) ≡ true }
+    ensures then_segments { is_lt (fell_cmp (call_due 2000) (missing_due 2000)) ≡ true }
+    ensures segments_first { is_lt (fell_cmp (missing_due 2000) (offer_due 4096 2000)) ≡ true }
     ensures then_offers { is_lt (fell_cmp (offer_due 4096 2000) (subscribe_due 2000)) ≡ true }
+    ensures then_sessions { is_lt (fell_cmp (subscribe_due 2000) (lost_due 2000)) ≡ true }
+    ensures then_silent_events { is_lt (fell_cmp (lost_due 2000) (silent_due 0x8001 2000)) ≡ true }
+    ensures sooner_silent { is_lt (fell_cmp (silent_due 0x8001 1999) (call_due 2000)) ≡ true }
+    ensures silent_by_key { is_lt (fell_cmp (silent_due 0x8001 2000) (silent_due 0x8002 2000)) ≡ true }
     ensures not_offers { is_lt (fell_cmp (offer_due 4096 2000) (call_due 2000)) ≡ false }
     ensures by_key { is_lt (fell_cmp (offer_due 4096 2000) (offer_due 4097 2000)) ≡ true }
     ensures not_by_key { is_lt (fell_cmp (offer_due 4097 2000) (offer_due 4096 2000)) ≡ false }

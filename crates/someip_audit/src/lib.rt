@@ -7,12 +7,13 @@
 //! - [`is_sd`], [`read_payload`], [`sd_message`]: messages of Service Discovery, for whatever else goes over them;
 //! - [`groups`]: findings of one group, of which the first three are told;
 //! - [`Finding`]: what a datagram shows; [`FellDue`]: what falls due between datagrams;
-//! - [`laws`]: the definitions behind the contracts, by example.
+//! - [`laws`]: the definitions behind the contracts, by example; [`cycle_laws`]: why an event is told as silent.
 #![tactic(auto)]
 
 mod any_message;
 mod audit;
 mod books;
+pub mod cycle_laws;
 mod datagram;
 mod discovery;
 mod entries;

@@ -5,9 +5,10 @@
 //!
 //! Of one message first its call and its return code, then its server, and then the subscription and the
 //! session of its event are told.
-ghost use Rattle.std.specs.Prelude.{◌≡◌, OnErr, OnOk, Some};
+ghost use Rattle.std.specs.Prelude.{◌≡◌, None, OnErr, OnOk, Some, if◌then◌else◌};
 ghost use Rattle.someip_wire.specs.View.{view};
-ghost use Rattle.someip_audit.specs.MessageShown.{cycle_shown, delivery};
+ghost use Rattle.someip_audit.specs.AnswerTimes.{cycle_ms_of};
+ghost use Rattle.someip_audit.specs.MessageShown.{cycle_shown, delivery, is_event};
 ghost use Rattle.someip_audit.specs.MessageShown.{call_shown, event_flow, event_shown, flow_shown};
 ghost use Rattle.someip_audit.specs.MessageShown.{goes_to_server, is_error, is_of_call, is_unicast};
 ghost use Rattle.someip_audit.specs.MessageShown.{judged_shown, message_shown, piece_shown, rest_shown};
@@ -250,7 +251,7 @@ impl<S: Reassembly> Books<S> {
             ≡ event_shown now origin.now header.now (working self.old findings.old.items)) }
         ensures err { OnErr result (findings.new.items ≡ findings.old.items) }
     {
-        if !matches!(header.kind, MessageType::Notification) || !is_unicast(&origin.to) {
+        if !is_event(origin, header) {
             return Ok(());
         }
         let delivery = delivery(origin, header);
@@ -298,10 +299,7 @@ impl<S: Reassembly> Books<S> {
             ≡ cycle_shown now origin.now header.now (working self.old findings.old.items)) }
         ensures err { OnErr result (findings.new.items ≡ findings.old.items) }
     {
-        if !matches!(header.kind, MessageType::Notification) || !is_unicast(&origin.to) {
-            return Ok(());
-        }
-        let Some(cycle_ms) = self.times.cycle_ms(header.service, header.method) else {
+        let Some(cycle_ms) = self.cycle_of(origin, header) else {
             return Ok(());
         };
         if !self.receivers.is_subscribed(&delivery(origin, header)) {
@@ -311,6 +309,18 @@ impl<S: Reassembly> Books<S> {
         match self.cycles.came(now, flow, cycle_ms, origin.numbers)? {
             Some(_) => tell(findings, Finding::CyclesFull),
             None => Ok(()),
+        }
+    }
+
+    /// How many milliseconds after an event to one endpoint the next one is to come, if the rules say so.
+    fn cycle_of(&self, origin: &Origin, header: &Header) -> Option<u32>
+        ensures { result ≡ (if is_event origin.now header.now
+            then cycle_ms_of self.now.times header.now.service header.now.method else None) }
+    {
+        if is_event(origin, header) {
+            self.times.cycle_ms(header.service, header.method)
+        } else {
+            None
         }
     }
 }
@@ -388,6 +398,13 @@ fn goes_to_server(kind: MessageType) -> bool
         kind.without_tp_flag(),
         MessageType::Request | MessageType::RequestNoReturn
     )
+}
+
+/// Whether a message with this header is an event to one endpoint.
+fn is_event(origin: &Origin, header: &Header) -> bool
+    ensures { result ≡ is_event origin.now header.now }
+{
+    matches!(header.kind, MessageType::Notification) && is_unicast(&origin.to)
 }
 
 /// An event that went to one endpoint.
