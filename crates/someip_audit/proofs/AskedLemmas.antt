@@ -1,5 +1,5 @@
 -- What an audit tells as silent until nothing is left, and what its book of cycles watches then.
-use Rattle.std.proofs.Common.{◌≡◌, ℕ, ◌==◌, ◌<◌, ◌≤◌, nat_le, suc, zero, Bool, true, false, cond, not, List, [], ◌∷◌, Option, None, Some, refl, ap, sym, ◌∙◌, arith}
+use Rattle.std.proofs.Common.{◌≡◌, ℕ, ◌==◌, ◌≤◌, nat_le, suc, zero, Bool, true, false, cond, not, List, [], ◌∷◌, Option, None, Some, refl, ap, sym, ◌∙◌, arith}
 use Rattle.std.specs.FinMap as finite
 use Rattle.std.specs.List.{All}
 use Rattle.std.specs.Ordering.{eq_by_cmp}
@@ -50,7 +50,7 @@ no_one_passed at standing none =
     ap not (eq-eqb (finite.len (expired at standing)) 0 empty)
 
 -- what has not passed by a moment has not before
-none_before : (at later : ℕ) (standing : Subscriptions) → at ≤ later → NonePassed later standing → NonePassed at standing
+pub none_before : (at later : ℕ) (standing : Subscriptions) → at ≤ later → NonePassed later standing → NonePassed at standing
 none_before at later standing le none key lasting has =
     not_true (has_passed at lasting.until) (passed_later at later lasting.until le (ap not (none key lasting has)))
 

@@ -36,7 +36,6 @@ use Rattle.audit_sd.specs.declared.subscriptions.key.SubscriptionKey.{Subscripti
 use Rattle.audit_sd.specs.receivers.ReceiverTables as receivers
 use Rattle.audit_sd.specs.receivers.ReceiverTables.{Receivers, Subscriptions}
 use Rattle.audit_traffic.specs.segments.SegmentBooks as segments
-use Rattle.audit_traffic.specs.declared.events.flow.EventFlow.{EventFlow}
 use Rattle.audit_traffic.specs.cycles.CycleHistories.{Step, Unsubscribed, Withdrawn, after_steps, book_after}
 use Rattle.audit_traffic.specs.cycles.CycleTables.{Cycles, without_subscribed}
 use Rattle.someip_audit.specs.AnswerTimes.{Times, cycle_ms_of}

@@ -10,3 +10,4 @@ pub mod SilenceLemmas
 pub mod CycleStepLemmas
 pub mod AskedLemmas
 pub mod RunLemmas
+pub mod StandingLemmas

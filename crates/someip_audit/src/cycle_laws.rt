@@ -1,6 +1,6 @@
 //! Laws of events that come in cycles, over all books and a whole recording. Each is the contract of a function
 //! that does nothing.
-ghost use Rattle.std.specs.Prelude.{◌≡◌, ◌≤◌, ℕ, List, [], Option, Some, None, Bool, true, false, if◌then◌else◌};
+ghost use Rattle.std.specs.Prelude.{◌≡◌, ◌≤◌, ℕ, List, [], Some, None, Bool, true, false, if◌then◌else◌};
 ghost use Rattle.std.specs.List.{All, list_any};
 ghost use Rattle.std.specs.FinMap as finite;
 ghost use Rattle.someip_wire.specs.declared.header.Header.{Header};
@@ -15,12 +15,14 @@ ghost use Rattle.audit_traffic.specs.declared.events.flow.EventFlow.{EventFlow};
 ghost use Rattle.audit_traffic.specs.cycles.CycleHistories.{Step, after_steps, book_of};
 ghost use Rattle.audit_traffic.specs.cycles.CycleRules.{goes_by};
 ghost use Rattle.audit_traffic.specs.cycles.CycleTables.{Cycles, after_event};
+ghost use Rattle.audit_traffic.specs.declared.cycles.finding.SilentEvent.{SilentEvent};
 ghost use Rattle.someip_audit.specs.declared.fell_due.FellDue.{FellDue};
+ghost use Rattle.someip_audit.specs.declared.fell_due.FellDue.TheVariants.{Silent};
 ghost use Rattle.someip_audit.specs.declared.rules.AuditRules.{AuditRules};
 ghost use Rattle.someip_audit.specs.AnswerTimes.{cycle_ms_of};
 ghost use Rattle.someip_audit.specs.Audits.{AuditState, Drains, Seen, after_seen, audit_begun, each_unwatched};
 ghost use Rattle.someip_audit.specs.CycleSteps.{HasReason, Runs, asked_steps, last_before_expiry, seen_steps};
-ghost use Rattle.someip_audit.specs.FellDues.{NonePassed};
+ghost use Rattle.someip_audit.specs.FellDues.{IsDue, NonePassed};
 ghost use Rattle.someip_audit.specs.MessageShown.{cycle_shown, delivery, event_flow, is_event};
 ghost use Rattle.someip_audit.specs.SdShown.{Work};
 
@@ -62,6 +64,16 @@ pub fn silence_is_told_until_a_subscription_expires()
         → (at ≤ now) × NonePassed at standing }
     ensures none_later { (now at : ℕ) (standing : Subscriptions) → at ≤ now → NonePassed at standing
         → (last : ℕ) × (last_before_expiry now standing ≡ Some last) × (at ≤ last) }
+{}
+
+/// A datagram ends what has expired: at its moment none of the subscriptions that stand then has passed. So what is
+/// watched then, and was silent by that moment, is due before the next datagram.
+pub fn a_datagram_ends_what_has_expired()
+    ensures passed { (seen : Seen) (state : AuditState) → NonePassed seen.now (after_seen seen state).receivers.standing }
+    ensures due { (seen : Seen) (state : AuditState) (told : SilentEvent)
+        → finite.get (after_seen seen state).cycles.watched told.flow
+        ≡ Some (record { silent_ms = told.silent_ms; until = told.at; numbers = told.numbers })
+        → told.at ≤ seen.now → IsDue seen.now (after_seen seen state) (Silent told) }
 {}
 
 /// An audit changes its book of cycles by such steps alone: where it is asked until nothing is left, by the moment
