@@ -59,8 +59,8 @@ impl CycleBook {
 
     /// Takes note of an event whose next one is to come so many milliseconds later, in a datagram with these
     /// numbers: its flow is watched from now on. Says where there is no room for that. What fell silent before
-    /// is asked for before, by [`CycleBook::due`]. Memory is taken for a flow that was not watched, or for a
-    /// new moment, and what is refused for want of it leaves the book as it was.
+    /// is told by [`CycleBook::due`] alone. Memory is taken for a flow that was not watched, or for a new
+    /// moment, and what is refused for want of it leaves the book as it was.
     pub fn came(
         &mut self,
         now: Moment,
@@ -111,8 +111,8 @@ impl CycleBook {
     }
 
     /// The event that fell silent first, by deadline and then by flow, if one did. It is watched no more until
-    /// it comes again. Whoever goes over a recording asks until nothing is left, with the moment of each
-    /// datagram and before it. It takes no memory.
+    /// it comes again. Whoever goes over a recording asks until nothing is left, before each datagram, with the
+    /// last moment at which no subscription had expired. It takes no memory.
     pub fn due(&mut self, now: Moment) -> Option<SilentEvent>
         ensures told { FallsSilent now self.old.watched result }
         ensures after { self.new ≡ after_silent result self.old }
