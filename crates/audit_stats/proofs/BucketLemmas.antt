@@ -108,6 +108,11 @@ low_end_is_near value small =
 pub low_end_rises : (a b : ℕ) → a ≤ b → low_end a ≤ low_end b
 low_end_rises a b le = rises 26 (min a 4294967295) (min b 4294967295) (clipped_fits b) (omega (arith, le))
 
+-- what is 2^32 or more lies in the last bucket
+pub low_end_beyond : (value : ℕ) → 2 ^ 32 ≤ value → low_end value ≡ 4227858432
+unfolding low_within
+low_end_beyond value great = let same : min value 4294967295 ≡ 4294967295 = omega (arith, great) in ap (low_within 26) same
+
 -- ---- halving in a loop
 
 pub record IsHalved (value rest width : ℕ) : Type 0 where

@@ -9,9 +9,9 @@ use Rattle.std.specs.FinMap.{find, put}
 use Rattle.std.specs.FinMap.Entries.{below_all, by_order, is_sorted}
 use Rattle.std.proofs.lemmas.Bool.{and_parts, leb-true, le-leb, lt-ltb, ltb-true}
 use Rattle.someip_tables.proofs.Entries.{true_from}
-use Rattle.audit_stats.specs.Ranks.{AreBelow, IsNear, IsOfRank, how_many}
+use Rattle.audit_stats.specs.Ranks.{IsNear, IsOfRank, how_many}
 use Rattle.audit_stats.specs.Spreads.{bucket_at, low_end, number_of, quantile, raised, rank_of, spread_of}
-use Rattle.audit_stats.proofs.BucketLemmas.{bucket_here, bucket_later, low_end_is_near, low_end_rises, not_below}
+use Rattle.audit_stats.proofs.BucketLemmas.{bucket_here, bucket_later, low_end_beyond, low_end_is_near, low_end_rises, not_below}
 
 -- ---- buckets by rising low end
 
@@ -200,27 +200,15 @@ least_within value (one ∷ values) some = cases (nat_le one value) refl (least_
     cases false is rest some = let le : (spread_of values).least ≤ value = rest some in omega (arith, le)
 
 -- a value of a rank is one of the values
-bounded : (bound value : ℕ) (values : List ℕ) → AreBelow bound values → how_many (λ other. nat_lt other value) values < how_many (λ other. nat_le other value) values → value < bound
-bounded bound value [] below more = absurd (omega (arith, more))
-bounded bound value (one ∷ values) below more = cases (nat_lt one value) (nat_le one value) refl refl (bounded bound value values below.1) more
-  where
-    cases : (s t : Bool) → nat_lt one value ≡ s → nat_le one value ≡ t → (how_many (λ other. nat_lt other value) values < how_many (λ other. nat_le other value) values → value < bound)
-        → cond s (how_many (λ other. nat_lt other value) values + 1) (how_many (λ other. nat_lt other value) values) < cond t (how_many (λ other. nat_le other value) values + 1) (how_many (λ other. nat_le other value) values) → value < bound
-    cases true true lt le rest more = rest (omega (arith, more))
-    cases true false lt le rest more = rest (omega (arith, more))
-    cases false true lt le rest more =
-        let upto : one ≤ value = leb-true one value le in
-        let from : value ≤ one = not_below one value lt in
-        omega (arith, upto, from, below.0)
-    cases false false lt le rest more = rest more
-
 -- ---- what is told
 
 near_told : (least low value : ℕ) → IsNear low value → least ≤ value → IsNear (max least low) value
 near_told least low value near le = (omega (arith, near.0, le), omega (arith, near.0, near.1))
 
-pub told_near : (percent : ℕ) (values : List ℕ) (value : ℕ) → AreBelow (2 ^ 32) values → length values < 2 ^ 64 → IsOfRank (rank_of percent (length values)) value values → IsNear (quantile percent (spread_of values)) value
-told_near percent values value below few rank =
+-- what is told of a rank: the low end of the bucket of its value, or the least value where that is greater
+told_is : (percent : ℕ) (values : List ℕ) (value : ℕ) → length values < 2 ^ 64 → IsOfRank (rank_of percent (length values)) value values
+    → quantile percent (spread_of values) ≡ max (spread_of values).least (low_end value)
+told_is percent values value few rank =
     let count : (spread_of values).count ≡ length values = count_is values few in
     let less : how_many (λ other. nat_lt (low_end other) (low_end value)) values ≤ how_many (λ other. nat_lt other value) values = more_pass _ _ values lower in
     let most : how_many (λ other. nat_le other value) values ≤ how_many (λ other. nat_le (low_end other) (low_end value)) values = more_pass _ _ values upper in
@@ -228,8 +216,7 @@ told_near percent values value below few rank =
     let within : rank_of percent (length values) ≤ sum_where (λ l. nat_le l (low_end value)) (finite.entries (spread_of values).buckets) = rw (sums (λ l. nat_le l (low_end value)) values few) (omega (arith, most, rank.1)) in
     let bucket : bucket_at (rank_of percent (length values)) (finite.entries (spread_of values).buckets) ≡ low_end value =
     bucket_is (low_end value) (finite.entries (spread_of values).buckets) (rises_from _ (true_from (finite.entries_sorted (spread_of values).buckets))) (rank_of percent (length values)) past within in
-    let small : value < 2 ^ 32 = bounded (2 ^ 32) value values below (omega (arith, rank.0, rank.1)) in
-    rw (count, bucket) (near_told (spread_of values).least (low_end value) value (low_end_is_near value small) (least_within value values (omega (arith, rank.0, rank.1))))
+    rw (count, bucket) refl
   where
     lower : (other : ℕ) → nat_lt (low_end other) (low_end value) ≡ true → nat_lt other value ≡ true
     lower other is = cases (nat_lt other value) refl
@@ -243,3 +230,13 @@ told_near percent values value below few rank =
 
     upper : (other : ℕ) → nat_le other value ≡ true → nat_le (low_end other) (low_end value) ≡ true
     upper other is = le-leb _ _ (low_end_rises other value (leb-true other value is))
+
+pub told_near : (percent : ℕ) (values : List ℕ) (value : ℕ) → length values < 2 ^ 64 → IsOfRank (rank_of percent (length values)) value values → value < 2 ^ 32
+    → IsNear (quantile percent (spread_of values)) value
+told_near percent values value few rank small =
+    rw (told_is percent values value few rank)
+    (near_told (spread_of values).least (low_end value) value (low_end_is_near value small) (least_within value values (omega (arith, rank.0, rank.1))))
+
+pub told_beyond : (percent : ℕ) (values : List ℕ) (value : ℕ) → length values < 2 ^ 64 → IsOfRank (rank_of percent (length values)) value values → 2 ^ 32 ≤ value
+    → quantile percent (spread_of values) ≡ max (spread_of values).least 4227858432
+told_beyond percent values value few rank great = told_is percent values value few rank ∙ ap (λ low. max (spread_of values).least low) (low_end_beyond value great)

@@ -1,9 +1,9 @@
 //! Laws of the definitions behind the contracts. Each is the contract of a function that does nothing: it says what
 //! figures tell of a recording, whatever code keeps them.
-ghost use Rattle.std.specs.Prelude.{◌≡◌, ◌<◌, ◌≤◌, ◌+◌, ◌^◌, ℕ, Bool, List, [], ◌∷◌, length, slice_get, None, Some, true, false};
+ghost use Rattle.std.specs.Prelude.{◌≡◌, ◌<◌, ◌≤◌, ◌+◌, ◌^◌, ℕ, max, Bool, List, [], ◌∷◌, length, slice_get, None, Some, true, false};
 ghost use Rattle.std.specs.FinMap as finite;
 ghost use Rattle.someip_wire.specs.declared.header.MessageType.TheVariants as types;
-ghost use Rattle.audit_stats.specs.Changes.{no_calls, no_discovery, no_events, unanswered_of};
+ghost use Rattle.audit_stats.specs.Changes.{after_call, no_calls, no_discovery, no_events, unanswered_of};
 ghost use Rattle.audit_stats.specs.declared.discovery.DiscoveryFigures.{DiscoveryFigures};
 ghost use Rattle.audit_stats.specs.declared.events.EventFigures.{EventFigures};
 ghost use Rattle.audit_stats.specs.declared.full.FigureLimits.{FigureLimits};
@@ -11,6 +11,7 @@ ghost use Rattle.audit_stats.specs.declared.full.Full.{Full};
 ghost use Rattle.audit_stats.specs.declared.keys.Call.{Call};
 ghost use Rattle.audit_stats.specs.declared.keys.Flow.{Flow};
 ghost use Rattle.audit_stats.specs.declared.keys.Way.{Way};
+ghost use Rattle.audit_stats.specs.declared.methods.CallChange.TheVariants as of_call;
 ghost use Rattle.audit_stats.specs.declared.methods.MethodFigures.{MethodFigures};
 ghost use Rattle.audit_stats.specs.declared.sight.Load.{Load};
 ghost use Rattle.audit_stats.specs.declared.sight.Sight.TheVariants.{Answered, Called, Event};
@@ -19,13 +20,17 @@ ghost use Rattle.audit_stats.specs.Histories.{AreCounted, cycles_of, discovery_f
 ghost use Rattle.audit_stats.specs.Ranks.{AreBelow, IsNear, IsOfRank, Rises};
 ghost use Rattle.audit_stats.specs.Spreads.{bucket_at, low_end, quantile, rank_of, spread_of};
 ghost use Rattle.audit_stats.specs.Stats.{Discovered, Fact, Lost, Stats, after_fact, after_sight, has_told, stats_of, told_of_fact};
-ghost use Rattle.audit_stats.specs.Tables.{full_told, has_room};
+ghost use Rattle.audit_stats.specs.Tables.{counted, full_told, has_room};
 
-/// A quantile that is told is not more than the exact one, and less by at most a 32nd of what is told.
+/// A quantile below 2^32 that is told is not more than the exact one, and less by at most a 32nd of what is told. For one
+/// that is 2^32 or more the low end of the last bucket is told, or the least value where that is greater.
 pub fn told_quantiles_are_near()
-    ensures { (percent : ℕ) (values : List ℕ) (value : ℕ) → AreBelow (2 ^ 32) values → length values < 2 ^ 64
-        → IsOfRank (rank_of percent (length values)) value values
+    ensures near { (percent : ℕ) (values : List ℕ) (value : ℕ) → length values < 2 ^ 64
+        → IsOfRank (rank_of percent (length values)) value values → value < 2 ^ 32
         → IsNear (quantile percent (spread_of values)) value }
+    ensures beyond { (percent : ℕ) (values : List ℕ) (value : ℕ) → length values < 2 ^ 64
+        → IsOfRank (rank_of percent (length values)) value values → 2 ^ 32 ≤ value
+        → quantile percent (spread_of values) ≡ max (spread_of values).least 4227858432 }
 {}
 
 /// The value of a rank is the one at that place of a list that rises. Each rank up to the number of values has a value,
@@ -123,7 +128,7 @@ pub fn methods_are_counted()
 {}
 
 /// A message on a flow without room changes nothing, but that it is noted that there is none; nor does one of Service
-/// Discovery on a way without room.
+/// Discovery on a way without room. A call without room among those that wait is counted as one that is not waited for.
 pub fn what_has_no_room_changes_nothing_else()
     ensures calls { (now : ℕ) (call : Call) (asks : Bool) (s : Stats) → has_room call.flow s.methods ≡ false
         → after_sight now (Called call asks) s ≡ record s { methods = full_told s.methods } }
@@ -133,6 +138,12 @@ pub fn what_has_no_room_changes_nothing_else()
         → after_sight now (Event flow load) s ≡ record s { events = full_told s.events } }
     ensures discovery { (way : Way) (s : Stats) → has_room way s.discovery ≡ false
         → after_fact (Discovered way) s ≡ record s { discovery = full_told s.discovery } }
+    ensures waiting { (now : ℕ) (call : Call) (s : Stats) → has_room call.flow s.methods ≡ true
+        → has_room call s.waiting ≡ false
+        → after_sight now (Called call true) s ≡ record s {
+          methods = counted no_calls after_call call.flow (of_call.Called false) s.methods;
+          waiting = full_told s.waiting;
+        } }
 {}
 
 /// That there is no room is told once for each of the four.

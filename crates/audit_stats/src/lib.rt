@@ -12,9 +12,9 @@
 //! takes as many steps as these maps are deep, and none is gone over. A spread keeps counts of buckets and no values.
 //!
 //! How much at most. A method and an event have one spread each, of at most 896 buckets with two numbers of eight bytes:
-//! 14 kB beside what the map itself takes. A call that waits takes less than 40 bytes. So 4,096 methods, 4,096 events
-//! and 65,536 calls take up to 120 MB of entries. But each bucket was made by a message of its own, and mostly there
-//! are dozens.
+//! 14 kB, and some 35 kB with what the map itself takes. A call that waits takes less than 40 bytes beside its place in
+//! a map. So 4,096 methods and 4,096 events take up to 290 MB. But each bucket was made by a message of its own, and
+//! mostly there are dozens.
 #![tactic(auto)]
 
 mod calls;
