@@ -203,5 +203,26 @@ def served(line):
             f"from {line['since']} until {line['until']} {line['why']}")
 
 
+def times(line):
+    return " ".join(absent(line[key]) for key in ("least", "p50", "p99", "greatest"))
+
+
+COUNTED = {
+    "method": lambda line: (f"{ids(line, 'method')} {line['client']} {line['server']} calls {line['calls']} "
+                            f"answers {line['answers']} errors {line['errors']} unanswered {line['unanswered']} "
+                            f"latency {times(line)}"),
+    "event": lambda line: (f"{ids(line, 'event')} {line['from']} {line['to']} count {line['count']} "
+                           f"bytes {line['bytes']} cycle {times(line)} gaps {line['gaps']}"),
+    "discovery": lambda line: f"{line['from']} {line['to']} messages {line['messages']} reboots {line['reboots']}",
+    "full": lambda line: line["name"],
+}
+
+
+def counted(line):
+    """A line of `stats`."""
+    return f"{line['kind']} {COUNTED[line['kind']](line)}"
+
+
 # By command.
-PLAIN = {"show": shown, "recording": shown, "audit": audited, "run": ran, "vectors": judged, "services": served}
+PLAIN = {"show": shown, "recording": shown, "audit": audited, "run": ran, "vectors": judged, "services": served,
+         "stats": counted}

@@ -126,6 +126,9 @@ MORE = [
     "audit --group --rules examples/rules/strict.toml examples/audit.pcap",
     "audit --rules examples/rules/cycles.toml examples/audit.pcap",
     "services --from 1700000018.5 examples/audit.pcap",
+    "stats --service 1111.8001,ffff examples/audit.pcap",
+    "stats --dedup 5 examples/taps/two.pcapng",
+    "stats --ports 30509 examples/route.pcap",
     "run --lines examples/runs/two.toml examples/runs/reboot.txt",
     "run --lines examples/runs/two.toml examples/runs/old_answer.txt",
 ]

@@ -41,6 +41,11 @@ HELP = (
     ("someipctl|help|services", "Prints who offered what in recordings and when, and who was subscribed\n\n"
      "Usage: someipctl services [OPTIONS] <FILE>...\n"),
     ("someipctl|help|services", "  someipctl services examples/audit.pcap\n"),
+    ("someipctl|help|stats", "Counts messages of recordings, and tells how long answers took and events stayed away\n\n"
+     "Usage: someipctl stats [OPTIONS] <FILE>...\n"),
+    ("someipctl|help|stats", "      --overtake-ms <N>     The milliseconds that a message may come after one that overtook "
+     "it, 100 without it\n"),
+    ("someipctl|help|stats", "  someipctl stats examples/audit.pcap\n"),
     ("someipctl|help|show", "      --service <SERVICES>  Prints only datagrams with a message of one of these "
      "services\n"),
     ("someipctl|help|show", "      --types <FILE>        Prints the values of the payloads whose shapes this file "
@@ -70,6 +75,8 @@ USAGE = (
     ("someipctl|extract|--frames|x", "error: unexpected argument '--frames' found\n"),
     ("someipctl|services", "Usage: someipctl services <FILE>...\n"),
     ("someipctl|services|--group|x", "error: unexpected argument '--group' found\n"),
+    ("someipctl|stats", "Usage: someipctl stats <FILE>...\n"),
+    ("someipctl|stats|--frames|x", "error: unexpected argument '--frames' found\n"),
     ("someipctl|payload|u8", "Usage: someipctl payload <SHAPE> <HEX>\n"),
     ("/bin/other", "Usage: someipctl <COMMAND>\n"),
     ("someipctl|list", "error: unrecognized subcommand 'list'\n"),
@@ -87,13 +94,16 @@ RECORDING = "Usage: someipctl recording [OPTIONS] <FILE>..."
 AUDIT = "Usage: someipctl audit [OPTIONS] <FILE>..."
 EXTRACT = "Usage: someipctl extract [OPTIONS] <FILE>..."
 SERVICES = "Usage: someipctl services [OPTIONS] <FILE>..."
-USAGES = {"recording": RECORDING, "audit": AUDIT, "extract": EXTRACT, "services": SERVICES}
+STATS = "Usage: someipctl stats [OPTIONS] <FILE>..."
+USAGES = {"recording": RECORDING, "audit": AUDIT, "extract": EXTRACT, "services": SERVICES, "stats": STATS}
 NUMBERS = (
     ("recording|--whole", "--whole-limit", "N", 1400, 1048576, RECORDING),
     ("recording|--whole", "--whole-slots", "N", 1, 1024, RECORDING),
     ("recording|--whole", "--whole-timeout", "MS", 1, 3600000, RECORDING),
     ("audit", "--answer-ms", "N", 1, 4294967295, AUDIT),
     ("audit", "--settle-ms", "N", 0, 4294967295, AUDIT),
+    ("audit", "--overtake-ms", "N", 0, 60000, AUDIT),
+    ("stats", "--overtake-ms", "N", 0, 60000, STATS),
 )
 # Values of `--ports` that are none.
 BAD_PORTS = ("0", "65536", "1,,2", ",1", "1,", "01", "+1", " 1", "1 ", "x", "1;2", "99999999999999999999")
@@ -122,9 +132,14 @@ TOLD_FIRST = (
     ("recording|--whole|--whole-timeout|0|--whole-slots|0|missing",
      "error: invalid value for '--whole-slots <N>': 1 to 1024", RECORDING),
     ("audit|--settle-ms|x|--answer-ms|0|missing", "error: invalid value for '--answer-ms <N>': 1 to 4294967295", AUDIT),
+    ("stats|--sessions|x|--overtake-ms|x|missing", "error: invalid value for '--overtake-ms <N>': 0 to 60000", STATS),
+    ("stats|--sessions|x|missing", "error: invalid value for '--sessions <HOW>': event or sender", STATS),
     ("recording|--whole-limit|1400|missing", "error: limits of whole messages need '--whole'", RECORDING),
     ("recording|--whole-slots|1|missing", "error: limits of whole messages need '--whole'", RECORDING),
     ("recording|--whole-timeout|1|missing", "error: limits of whole messages need '--whole'", RECORDING),
+    # Before a setting: ports.
+    ("stats|--overtake-ms|x|--ports|0|missing", "error: invalid value '0' for '--ports <PORTS>': ports are numbers from 1 "
+     "to 65535 with commas between them", STATS),
     # Before a types file that cannot be read: ports, a limit, and a limit alone.
     ("recording|--types|nowhere|--ports|0|missing", "error: invalid value '0' for '--ports <PORTS>': ports are numbers "
      "from 1 to 65535 with commas between them", RECORDING),
@@ -170,7 +185,8 @@ def values():
     for words, told, usage in TOLD_FIRST:
         yield words, 2, f"{told}\n\n{usage}\n"
     for command, files, usage in (("recording", "--types|nowhere|missing", RECORDING), ("extract", "missing", EXTRACT),
-                                  ("services", "missing", SERVICES), ("show", "--types|nowhere|missing", SHOW)):
+                                  ("services", "missing", SERVICES), ("stats", "missing", STATS),
+                                  ("show", "--types|nowhere|missing", SHOW)):
         for text in BAD_SERVICES:
             yield (f"{command}|--service|{text}|{files}", 2, f"error: invalid value '{text}' for "
                    "'--service <SERVICES>': services are four hex digits, perhaps with a dot and four more, with "

@@ -15,7 +15,8 @@ pub trait Account {
     // At the end of a recording, whose last moment this is, it prints this text.
     ghost ends: { Self → ℕ → List ℕ → Type 0 };
 
-    /// Takes the next datagram, and prints what is told of it. Where memory runs out, nothing was printed of it.
+    /// Takes the next datagram, and prints what is told of it. Where memory runs out or writing fails, nothing or a
+    /// beginning of that was printed.
     fn take<W: Write>(
         &mut self,
         buffer: &mut Buffer,

@@ -149,7 +149,10 @@ cli_asks = (
                   three_asks _ (codes "setup") (codes "moves") (codes "goal") _ (λ value values. refl) refl refl refl refl,
                   (
                     one_asks _ (codes "file") _ (λ value values. refl) refl refl,
-                    (one_asks _ (codes "file") _ (λ value values. refl) refl refl, (help_asks _ refl, tt)),
+                    (
+                      one_asks _ (codes "file") _ (λ value values. refl) refl refl,
+                      (one_asks _ (codes "file") _ (λ value values. refl) refl refl, (help_asks _ refl, tt)),
+                    ),
                   ),
                 ),
               ),

@@ -13,7 +13,7 @@ use Rattle.clap.specs.declared.error.ErrorKind.TheVariants as kind
 use Rattle.clap.specs.declared.builder.ArgAction.TheVariants.{Append, SetTrue}
 use Rattle.someipctl_recordings.specs.declared.audit.SettingTexts.{SettingTexts}
 use Rattle.someipctl_cli.specs.declared.command.Command.{Command}
-use Rattle.someipctl_cli.specs.declared.command.Command.TheVariants.{Show, Payload, Encode, Vectors, Run, Recording, Chart, Audit, Explore, Extract, Services}
+use Rattle.someipctl_cli.specs.declared.command.Command.TheVariants.{Show, Payload, Encode, Vectors, Run, Recording, Chart, Audit, Explore, Extract, Services, Stats}
 use Rattle.someipctl_cli.specs.declared.command.AuditOptions.{AuditOptions}
 use Rattle.someipctl_cli.specs.declared.command.ChoiceOptions.{ChoiceOptions}
 use Rattle.someipctl_cli.specs.declared.command.PacketOptions.{PacketOptions}
@@ -22,6 +22,7 @@ use Rattle.someipctl_cli.specs.declared.command.RecordingOptions.{RecordingOptio
 use Rattle.someipctl_cli.specs.declared.explore_words.ExploreOptions.{ExploreOptions}
 use Rattle.someipctl_cli.specs.declared.extract_words.ExtractOptions.{ExtractOptions}
 use Rattle.someipctl_cli.specs.declared.report_words.ReportOptions.{ReportOptions}
+use Rattle.someipctl_cli.specs.declared.stats_words.StatsOptions.{StatsOptions}
 use Rattle.someipctl_cli.specs.declared.command.LineError.{LineError}
 use Rattle.someipctl_cli.specs.declared.command.LineError.TheVariants.{Usage, Help, OutOfMemory}
 
@@ -117,12 +118,15 @@ recording_usage = (with_rule recording_options (required_many (codes "file"))).t
 abbrev pub chart_usage : Shape
 chart_usage = (with_inputs (new_app (codes "chart"))).top
 
+-- the command with the options that say which messages are lost, and not overtaken or of another event
+abbrev pub with_session_settings : App → App
+with_session_settings app = with_rule (with_rule app (valued (codes "overtake-ms"))) (valued (codes "sessions"))
+
 -- `audit [--ports PORTS] [--answer-ms N] [--settle-ms N] [--overtake-ms N] [--sessions HOW] [--rules FILE] [--group] [--frames]
 -- [--service SERVICES] [--json] [--address A] [--client C] [--from TIME] [--until TIME] [--learned] [--interface N] [--vlan ID] [--dedup MS] FILE..`
 abbrev pub with_settings : App → App
 with_settings app =
-    with_rule (with_rule (with_rule (with_rule (with_rule app (valued (codes "answer-ms"))) (valued (codes "settle-ms"))) (valued (codes "overtake-ms"))) (valued (codes "sessions")))
-    (valued (codes "rules"))
+    with_rule (with_session_settings (with_rule (with_rule app (valued (codes "answer-ms"))) (valued (codes "settle-ms")))) (valued (codes "rules"))
 
 abbrev pub audit_options : App
 audit_options = with_packets (with_choice (with_json (with_findings (with_settings (with_rule (new_app (codes "audit")) (valued (codes "ports")))))))
@@ -161,6 +165,15 @@ services_options =
 abbrev pub services_usage : Shape
 services_usage = (with_rule services_options (required_many (codes "file"))).top
 
+-- `stats [--ports PORTS] [--json] [--service SERVICES] [--overtake-ms N] [--sessions HOW] [--address A] [--client C]
+-- [--from TIME] [--until TIME] [--learned] [--interface N] [--vlan ID] [--dedup MS] FILE..`
+abbrev pub stats_options : App
+stats_options =
+    with_packets (with_choice (with_session_settings (with_rule (with_json (with_rule (new_app (codes "stats")) (valued (codes "ports")))) (valued (codes "service")))))
+
+abbrev pub stats_usage : Shape
+stats_usage = (with_rule stats_options (required_many (codes "file"))).top
+
 -- the program alone, which asks for a subcommand
 abbrev pub program : App
 program = on_top (λ top. record top { subcommand_required = true }) (new_app (codes "someipctl"))
@@ -177,9 +190,13 @@ with_file_commands = with_subcommand (with_subcommand with_byte_commands vectors
 abbrev pub with_audit : App
 with_audit = with_subcommand (with_subcommand (with_subcommand with_file_commands recording_usage) chart_usage) audit_usage
 
+-- the program with all commands but the accounts of recordings
+abbrev pub with_extract : App
+with_extract = with_subcommand (with_subcommand with_audit explore_usage) extract_usage
+
 -- the command line
 abbrev pub cli : App
-cli = with_subcommand (with_subcommand (with_subcommand with_audit explore_usage) extract_usage) services_usage
+cli = with_subcommand (with_subcommand with_extract services_usage) stats_usage
 
 -- ---- what words ask for
 
@@ -247,13 +264,19 @@ pub record ExtractRequest : Type 0 where
   pub ports : Option Text
   pub service : Option Text
 
--- the options of `services`
+-- the options of `services`, which `stats` has too
 pub record ReportRequest : Type 0 where
   pub packets : PacketRequest
   pub choice : ChoiceRequest
   pub ports : Option Text
   pub service : Option Text
   pub json : Bool
+
+-- the options of `stats`
+pub record StatsRequest : Type 0 where
+  pub report : ReportRequest
+  pub overtake_ms : Option Text
+  pub sessions : Option Text
 
 -- a command, without where its words lie in memory
 pub data Request : Type 0 where
@@ -268,6 +291,7 @@ pub data Request : Type 0 where
   explore_request : (setup moves goal : Text) → ExploreRequest → Request
   extract_request : List Text → ExtractRequest → Request
   services_request : List Text → ReportRequest → Request
+  stats_request : List Text → StatsRequest → Request
 
 abbrev pub text_at : Option (Bor Text) → Option Text
 text_at text = option_map (λ t. t.now) text
@@ -340,6 +364,13 @@ asked_by_report_options o = record {
   json = o.json;
 }
 
+abbrev pub asked_by_stats_options : StatsOptions → StatsRequest
+asked_by_stats_options o = record { report = asked_by_report_options o.report; overtake_ms = text_at o.overtake_ms; sessions = text_at o.sessions }
+
+-- the texts that the audit behind figures is set by
+abbrev pub stats_texts_of : StatsOptions → SettingTexts
+stats_texts_of o = record { answer_ms = None; settle_ms = None; overtake_ms = o.overtake_ms; sessions = o.sessions }
+
 -- what a command asks for
 abbrev pub asked_by_command : Command → Request
 asked_by_command (Show capture service types json) = show_request capture.now (text_at service) (text_at types) json
@@ -353,6 +384,7 @@ asked_by_command (Audit files options) = audit_request (texts_at files.items) (a
 asked_by_command (Explore setup moves goal options) = explore_request setup.now moves.now goal.now (asked_by_explore_options options)
 asked_by_command (Extract files options) = extract_request (texts_at files.items) (asked_by_extract_options options)
 asked_by_command (Services files options) = services_request (texts_at files.items) (asked_by_report_options options)
+asked_by_command (Stats files options) = stats_request (texts_at files.items) (asked_by_stats_options options)
 
 -- an option without a value is on where it was given: then its value is that of true
 abbrev pub is_on : Option Text → Bool
@@ -512,6 +544,17 @@ report_options_by value =
 abbrev pub asked_by_services : (Text → Option Text) → (Text → List Text) → Option Request
 asked_by_services value values = option_map (λ file. services_request (values (codes "file")) (report_options_by value)) (value (codes "file"))
 
+-- the options of `stats`, by what each matched
+abbrev pub stats_options_of : ReportRequest → (overtake_ms sessions : Option Text) → StatsRequest
+stats_options_of report overtake_ms sessions = record { report = report; overtake_ms = overtake_ms; sessions = sessions }
+
+abbrev pub stats_options_by : (Text → Option Text) → StatsRequest
+stats_options_by value = stats_options_of (report_options_by value) (value (codes "overtake-ms")) (value (codes "sessions"))
+
+-- what `stats` asks for
+abbrev pub asked_by_stats : (Text → Option Text) → (Text → List Text) → Option Request
+asked_by_stats value values = option_map (λ file. stats_request (values (codes "file")) (stats_options_by value)) (value (codes "file"))
+
 -- what a subcommand asks for, by its name and the values of its arguments and options: the first of each, and all
 abbrev pub asked_by_subcommand : Text → (Text → Option Text) → (Text → List Text) → Option Request
 asked_by_subcommand name value values =
@@ -525,7 +568,8 @@ asked_by_subcommand name value values =
     else (if bytes_eq name (codes "audit") then asked_by_audit value values
     else (if bytes_eq name (codes "explore") then asked_by_explore value values
     else (if bytes_eq name (codes "extract") then asked_by_extract value values
-    else (if bytes_eq name (codes "services") then asked_by_services value values else None))))))))))
+    else (if bytes_eq name (codes "services") then asked_by_services value values
+    else (if bytes_eq name (codes "stats") then asked_by_stats value values else None)))))))))))
 
 -- what the subcommand that was entered asks for, where one was
 abbrev pub asked_by_entered : Option (Text × List Row) → Option Request

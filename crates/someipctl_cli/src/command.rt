@@ -15,6 +15,7 @@ use crate::explore_words::{ExploreOptions, explore_matched};
 use crate::extract_words::{ExtractOptions, extract_matched};
 use crate::grammar::definition;
 use crate::report_words::{ReportOptions, services_matched};
+use crate::stats_words::{StatsOptions, stats_matched};
 use clap::ArgMatches;
 use clap::error::ErrorKind;
 use someipctl_recordings::audit::SettingTexts;
@@ -117,6 +118,13 @@ pub enum Command<'w> {
         files: Vec<&'w str>,
         /// Which lines are asked for.
         options: ReportOptions<'w>,
+    },
+    /// Print how much came in recordings of network traffic, and how long it took.
+    Stats {
+        /// Their paths, as they were given.
+        files: Vec<&'w str>,
+        /// What counts.
+        options: StatsOptions<'w>,
     },
 }
 
@@ -318,6 +326,7 @@ fn matched_under<'w>(
         "explore" => explore_matched(alloc, rest),
         "extract" => extract_matched(alloc, rest),
         "services" => services_matched(alloc, rest),
+        "stats" => stats_matched(alloc, rest),
         _ => Ok(None),
     }
 }

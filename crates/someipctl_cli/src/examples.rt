@@ -183,6 +183,17 @@ prints first
   subscription 1111.0001 major 01 group 0002 192.168.0.3:40002 at 192.168.0.1 from 1700000008.010000000 until 1700000008.012000000 refused
 --from and --until choose those that end at or after the one time, and begin before the other.";
 
+/// Of `stats`.
+pub(crate) const STATS_EXAMPLE: &str = "\
+FILE is a recording as for `recording`, and what `audit` looks at is counted. At the end a line is printed
+for each method, event and way of Service Discovery between two endpoints, and for what lacks since there
+was no room. Times are milliseconds: the least, the median, the 99th percentile and the greatest. Of these
+the two in the middle are told at most a 32nd too low, where they are below 71 minutes. So the call
+  someipctl stats examples/audit.pcap
+prints first
+  method 1111.0421 192.168.0.2:40001 192.168.0.1:30509 calls 5 answers 5 errors 0 unanswered 2 latency 20.000 49.152 2293.760 2300.000
+SERVICES, A, C and TIME choose what counts, and not what is looked at.";
+
 /// Of `extract`.
 pub(crate) const EXTRACT_EXAMPLE: &str = "\
 FILE and the options are those of `recording`, which prints the datagrams that are written here. What is

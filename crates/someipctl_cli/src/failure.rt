@@ -103,9 +103,9 @@ pub enum Failure<'p> {
     /// One of the limits of messages that are put together is none.
     #[error("error: invalid value for '{}': {}\n\nUsage: someipctl recording [OPTIONS] <FILE>...", option_of(*.0), .0)]
     BadLimits(LimitsError),
-    /// One of the settings of an audit is none.
-    #[error("error: invalid value for '{}': {}\n\nUsage: someipctl audit [OPTIONS] <FILE>...", option_of_setting(*.0), .0)]
-    BadSetting(SettingError),
+    /// One of the settings of an audit is none, of a command that is used so.
+    #[error("error: invalid value for '{}': {}\n\nUsage: someipctl {}", option_of_setting(*.0), .0, .1)]
+    BadSetting(SettingError, &'static str),
     /// Such a limit was given, and messages are not put together.
     #[error("error: limits of whole messages need '--whole'\n\nUsage: someipctl recording [OPTIONS] <FILE>...")]
     LimitAlone,
@@ -145,7 +145,7 @@ impl<'p> Failure<'p> {
             | Failure::BadOption(_, _, _)
             | Failure::BadServices(_, _)
             | Failure::BadLimits(_)
-            | Failure::BadSetting(_)
+            | Failure::BadSetting(_, _)
             | Failure::LimitAlone
             | Failure::ExpectAndBegins
             | Failure::JsonAndExpected(_) => 2,

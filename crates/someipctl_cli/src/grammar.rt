@@ -19,6 +19,7 @@ use crate::examples::{
 use crate::explore_words::explore_definition;
 use crate::extract_words::extract_definition;
 use crate::report_words::services_definition;
+use crate::stats_words::{add_session_settings, stats_definition};
 use clap::{Arg, ArgAction};
 use std::alloc::{AllocError, Global};
 
@@ -36,7 +37,8 @@ pub(crate) fn definition<'d>(alloc: Global) -> Result<clap::Command<'d>, AllocEr
     let audit = adding(chart, audit_definition(alloc));
     let explore = adding(audit, explore_definition(alloc));
     let extract = adding(explore, extract_definition(alloc));
-    adding(extract, services_definition(alloc))
+    let services = adding(extract, services_definition(alloc));
+    adding(services, stats_definition(alloc))
 }
 
 /// A command with a further one below it, where both are there.
@@ -209,29 +211,14 @@ fn add_settings<'d>(
         "N",
         "The milliseconds at first in which no event without a subscription is told, 10000 without it",
     );
-    let overtake = valued_option(
-        alloc,
-        "overtake-ms",
-        "N",
-        "The milliseconds that a message may come after one that overtook it, 100 without it",
-    );
-    let sessions = valued_option(
-        alloc,
-        "sessions",
-        "HOW",
-        "Whether a sender counts the sessions of each event, or of all its events: event or sender, event without it",
-    );
     let rules = valued_option(
         alloc,
         "rules",
         "FILE",
         "Takes findings as the rules of this file say",
     );
-    let first = taking(command, answer);
-    let second = taking(first, settle);
-    let third = taking(second, overtake);
-    let fourth = taking(third, sessions);
-    taking(fourth, rules)
+    let first = taking(taking(command, answer), settle);
+    taking(add_session_settings(alloc, first), rules)
 }
 
 /// The command with the options that number and choose the lines of findings.

@@ -6,6 +6,7 @@ ghost use Rattle.someipctl_cli.specs.CommandLine.{requested, show_request, encod
 ghost use Rattle.someipctl_cli.specs.CommandLine.{recording_options_of, recording_request, chart_request};
 ghost use Rattle.someipctl_cli.specs.CommandLine.{audit_options_of, audit_request, choice_options_of, no_choice, no_packets, no_settings, setting_options_of};
 ghost use Rattle.someipctl_cli.specs.CommandLine.{extract_options_of, extract_request, packet_options_of, report_options_of, services_request};
+ghost use Rattle.someipctl_cli.specs.CommandLine.{stats_options_of, stats_request};
 
 use clap::error::ErrorKind;
 
@@ -98,6 +99,10 @@ pub fn calls_by_example()
     ensures services { requested (line (codes "services" ∷ codes "--json" ∷ codes "x" ∷ codes "--service" ∷ codes "1111" ∷ []))
         ≡ Some (services_request (codes "x" ∷ [])
         (report_options_of (packet_options_of None None None) no_choice None (Some (codes "1111")) true)) }
+    ensures stats { requested (line (codes "stats" ∷ codes "x" ∷ codes "--overtake-ms" ∷ codes "20" ∷ codes "--sessions"
+        ∷ codes "sender" ∷ codes "--address" ∷ codes "a" ∷ codes "--dedup" ∷ codes "5" ∷ []))
+        ≡ Some (stats_request (codes "x" ∷ []) (stats_options_of (report_options_of (packet_options_of None None (Some (codes "5")))
+        (choice_options_of (Some (codes "a")) None None None None) None None false) (Some (codes "20")) (Some (codes "sender")))) }
 
     // An option without its value, and one that was given twice.
     ensures bare_expect { HaveFault (line (codes "run" ∷ codes "x" ∷ codes "y" ∷ codes "--expect" ∷ []))

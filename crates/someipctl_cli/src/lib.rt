@@ -2,7 +2,7 @@
 //!
 //! What a command reads, does and prints stands in `someipctl_show`, of `recording` and `audit` in
 //! `someipctl_recordings`, of `extract` in `someipctl_extract`, of `services` in
-//! `someipctl_services`, of `run` and `chart` in `someipctl_run`, and of
+//! `someipctl_services`, of `stats` in `someipctl_stats`, of `run` and `chart` in `someipctl_run`, and of
 //! `explore` in `someipctl_explore`.
 //!
 //! - `command`, `help`: what the words ask for, and the answer to others;
@@ -11,7 +11,8 @@
 //! - `program`: the words, and the exit status;
 //! - `options`, `source`: what options ask for, and the files that are named;
 //! - `error_writer`: standard error, as a writer;
-//! - `explore_words`, `extract_words`, `report_words`: the words of `explore`, of `extract` and of `services`;
+//! - `explore_words`, `extract_words`, `report_words`, `stats_words`: the words of `explore`, of `extract`, of
+//!   `services` and of `stats`;
 //! - `recordings`, `runs`, `explorations`: the commands over recordings, and over setups;
 //! - `failure`: why the program failed, with its exit status and its text;
 //! - `laws`: what the definitions behind the contracts promise.
@@ -37,6 +38,7 @@ mod recordings;
 mod report_words;
 mod runs;
 mod source;
+mod stats_words;
 
 pub use command::{
     AuditOptions, ChoiceOptions, Command, LineError, PacketOptions, RecordingOptions, command_of,
@@ -47,3 +49,4 @@ pub use failure::{Failure, OptionName, Refusal};
 pub use help::answer_error;
 pub use program::{answer, report, run, words_of};
 pub use report_words::ReportOptions;
+pub use stats_words::StatsOptions;

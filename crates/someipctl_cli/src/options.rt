@@ -40,7 +40,7 @@ struct Choice {
     learned: bool,
 }
 
-/// What of recordings is asked for by the options that `recording`, `audit` and `extract` share.
+/// What of recordings is asked for by the options that the commands over recordings share.
 #[derive(Drop)]
 pub(crate) struct Selection {
     ports: Option<Vec<u16>>,
@@ -65,7 +65,7 @@ impl Selection {
     }
 }
 
-/// The texts of the options that `recording`, `audit` and `extract` share, of a command that is used so.
+/// The texts of the options that the commands over recordings share, of a command that is used so.
 #[derive(Clone, Copy)]
 pub(crate) struct SharedOptions<'p> {
     pub(crate) usage: &'static str,

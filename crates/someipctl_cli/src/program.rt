@@ -8,7 +8,9 @@ use crate::explorations::explore_files;
 use crate::failure::{Failure, Refusal};
 use crate::help::answer_error;
 use crate::options::{line_form, services_of};
-use crate::recordings::{audit_recorded, extract_recorded, services_recorded, show_recorded};
+use crate::recordings::{
+    audit_recorded, extract_recorded, services_recorded, show_recorded, stats_recorded,
+};
 use crate::runs::{RunForm, chart_files, form_of, run_files, wanted_of};
 use crate::source::{open_file, types_at};
 use someipctl_io::{Form, Outcome};
@@ -123,6 +125,7 @@ fn run_command<'w, R: Files + Print + Eprint + Input + AllocGlobal>(
         } => explore_files(rt, setup, moves, goal, &options),
         Command::Extract { files, options } => extract_recorded(rt, &files, options),
         Command::Services { files, options } => services_recorded(rt, &files, options),
+        Command::Stats { files, options } => stats_recorded(rt, &files, options),
     }
 }
 

@@ -1,10 +1,11 @@
-//! The commands over recordings: `recording`, `audit`, `extract` and `services`.
+//! The commands over recordings: `recording`, `audit`, `extract`, `services` and `stats`.
 use crate::command::{AuditOptions, RecordingOptions};
 use crate::extract_words::ExtractOptions;
 use crate::failure::{Failure, Refusal};
-use crate::options::{SharedOptions, line_form, selection_of, whole_of};
+use crate::options::{Selection, SharedOptions, line_form, selection_of, whole_of};
 use crate::report_words::ReportOptions;
 use crate::source::{open_sources, rules_at, types_at};
+use crate::stats_words::StatsOptions;
 use recording_packets::LeftOut;
 use someip_tp::IntervalPool;
 use someipctl_extract::{Losses, extract_recording};
@@ -14,6 +15,7 @@ use someipctl_recordings::{
     Asked, FileFault, Heads, ShownRecording, StoppedAt, Wanted, show_recording,
 };
 use someipctl_services::{ServicesAsked, show_services};
+use someipctl_stats::{StatsAsked, show_stats};
 use std::io;
 use std::rt::Files;
 
@@ -25,6 +27,8 @@ const AUDIT_USAGE: &str = "audit [OPTIONS] <FILE>...";
 const EXTRACT_USAGE: &str = "extract [OPTIONS] <FILE>...";
 
 const SERVICES_USAGE: &str = "services [OPTIONS] <FILE>...";
+
+const STATS_USAGE: &str = "stats [OPTIONS] <FILE>...";
 
 /// Shows recordings, and then tells on standard error what was left out of them, and their fault, if they have
 /// one. Whatever is wrong with the options is told before a file is looked at, and whatever is wrong with the
@@ -109,7 +113,7 @@ fn audit_wanted<'p, R: Files + Print + Eprint + Input + AllocGlobal>(
 ) -> Result<Outcome, Failure<'p>> {
     let rules = match rules_in(&options.settings.texts()) {
         Ok(rules) => rules,
-        Err(error) => return Err(Failure::BadSetting(error)),
+        Err(error) => return Err(Failure::BadSetting(error, AUDIT_USAGE)),
     };
     let bench = rules_at(rt, options.rules)?;
     let asked = AuditAsked {
@@ -184,16 +188,7 @@ pub(crate) fn services_recorded<'p, R: Files + Print + Eprint + Input + AllocGlo
     paths: &[&'p str],
     options: ReportOptions<'p>,
 ) -> Result<Outcome, Failure<'p>> {
-    let selection = selection_of(
-        rt,
-        SharedOptions {
-            usage: SERVICES_USAGE,
-            ports: options.ports,
-            service: options.service,
-            packets: options.packets,
-            choice: options.choice,
-        },
-    )?;
+    let selection = report_selection(rt, SERVICES_USAGE, options)?;
     let asked = ServicesAsked {
         wanted: selection.wanted(),
         form: line_form(options.json),
@@ -205,6 +200,65 @@ pub(crate) fn services_recorded<'p, R: Files + Print + Eprint + Input + AllocGlo
         tell_left_out(rt, &shown.left_out);
     }
     end_recording(rt, paths, shown)
+}
+
+/// Prints how much came in recordings and how long it took, and then tells on standard error what was left out of them,
+/// and their fault, if they have one. Whatever is wrong with the options is told before a recording is looked at.
+pub(crate) fn stats_recorded<'p, R: Files + Print + Eprint + Input + AllocGlobal>(
+    rt: &R,
+    paths: &[&'p str],
+    options: StatsOptions<'p>,
+) -> Result<Outcome, Failure<'p>> {
+    let selection = report_selection(rt, STATS_USAGE, options.report)?;
+    stats_wanted(rt, paths, options, selection.wanted())
+}
+
+/// The same, where what is asked for is right.
+fn stats_wanted<'p, R: Files + Print + Eprint + Input + AllocGlobal>(
+    rt: &R,
+    paths: &[&'p str],
+    options: StatsOptions<'p>,
+    wanted: Wanted<'_>,
+) -> Result<Outcome, Failure<'p>> {
+    let rules = match rules_in(&options.texts()) {
+        Ok(rules) => rules,
+        Err(error) => return Err(Failure::BadSetting(error, STATS_USAGE)),
+    };
+    let asked = StatsAsked {
+        rules,
+        wanted,
+        form: line_form(options.report.json),
+    };
+    let mut sources = open_sources(rt, paths)?;
+    let mut writer = io::writer(rt);
+    let shown = show_stats::<IntervalPool, _, _>(
+        rt.alloc(),
+        sources.as_mut_slice(),
+        &asked,
+        &mut writer,
+    );
+    if let Ok(shown) = &shown {
+        tell_left_out(rt, &shown.left_out);
+    }
+    end_recording(rt, paths, shown)
+}
+
+/// What the options of a report ask for, of a command that is used so.
+fn report_selection<'p, R: AllocGlobal>(
+    rt: &R,
+    usage: &'static str,
+    options: ReportOptions<'p>,
+) -> Result<Selection, Failure<'p>> {
+    selection_of(
+        rt,
+        SharedOptions {
+            usage,
+            ports: options.ports,
+            service: options.service,
+            packets: options.packets,
+            choice: options.choice,
+        },
+    )
 }
 
 /// Tells what the packets lose that were extracted, if they lose anything.

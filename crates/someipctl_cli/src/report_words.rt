@@ -1,4 +1,4 @@
-//! The words of `services`: its options as `clap` is told of them, and what they ask for.
+//! The words of `services`: its options as `clap` is told of them, and what they ask for. `stats` has these options too.
 ghost use Rattle.std.specs.Prelude.{◌≡◌, IfOk, false, option_map};
 ghost use Rattle.clap.specs.Words.{first_value, found_of, shape_of};
 ghost use Rattle.clap.specs.declared.builder.Command.TheViews.{out-Command};
@@ -13,16 +13,16 @@ use crate::grammar::{add_choice, add_json, add_packets, files, taking, valued_op
 use clap::ArgMatches;
 use std::alloc::{AllocError, Global};
 
-/// The options of a report on recordings, as `services`.
+/// The options of a report on recordings: of `services`, and most of `stats`.
 #[derive(Clone, Copy, PartialEq, Eq)]
 pub struct ReportOptions<'w> {
     /// Which packets are looked at.
     pub packets: PacketOptions<'w>,
-    /// Which lines are told, beside services.
+    /// Which lines are told or what counts, beside services.
     pub choice: ChoiceOptions<'w>,
     /// The text of the ports that are looked at. None looks at all.
     pub ports: Option<&'w str>,
-    /// The text of the services whose lines are told. None tells all.
+    /// The text of the services whose lines are told, or which count. None leaves out none.
     pub service: Option<&'w str>,
     /// Whether each line is to be a JSON object.
     pub json: bool,
@@ -71,7 +71,8 @@ pub(crate) fn services_matched<'w>(
     }))
 }
 
-fn report_options<'w>(matches: &ArgMatches<'w>) -> ReportOptions<'w>
+/// The options of a report that the matches have.
+pub(crate) fn report_options<'w>(matches: &ArgMatches<'w>) -> ReportOptions<'w>
     ensures { asked_by_report_options result ≡ report_options_by (first_value (found_of matches.now)) }
 {
     ReportOptions {

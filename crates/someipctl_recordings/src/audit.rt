@@ -20,7 +20,7 @@ mod weights;
 
 pub use asked::AuditAsked;
 pub use auditing::SeenDatagram;
-pub use audits::{seen_next, show_audit};
-pub use lines::time_at;
+pub use audits::{seen_next, show_audit, watch_of};
+pub use lines::{origin_of_due, time_at};
 pub use settings::{SettingError, SettingTexts, rules_in};
 pub use unjudged::put_headless;

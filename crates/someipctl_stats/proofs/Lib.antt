@@ -1,1 +1,5 @@
 mod ExampleLemmas
+pub mod CountingLemmas
+pub mod AccountLemmas
+pub mod OneTextLemmas
+pub mod ChosenLemmas

@@ -1,3 +1,9 @@
 pub mod StatsLines
 pub mod StatsText
 pub mod Examples
+pub mod Micros
+pub mod Shown
+pub mod Lacks
+pub mod LackLines
+pub mod Counting
+pub mod StatsAccount

@@ -1,14 +1,33 @@
 //! Laws of the definitions behind the contracts. Each is the contract of a function that does nothing.
-ghost use Rattle.std.specs.Prelude.{◌≡◌, [], codes};
+ghost use Rattle.std.specs.Prelude.{◌≡◌, ◌++◌, ℕ, List, [], None, Option, Some, codes, false, reverse, true};
+ghost use Rattle.recording.specs.declared.Time.{Time};
+ghost use Rattle.recording_packets.specs.Intake.{ArrivalValue};
 ghost use Rattle.audit_stats.specs.declared.full.FigureLimits.{FigureLimits};
 ghost use Rattle.audit_stats.specs.declared.full.Full.TheVariants as full;
+ghost use Rattle.audit_stats.specs.declared.keys.Flow.{Flow};
+ghost use Rattle.audit_stats.specs.declared.keys.Way.{Way};
 ghost use Rattle.audit_stats.specs.Examples.{event, method};
-ghost use Rattle.audit_stats.specs.Stats.{no_stats};
+ghost use Rattle.audit_stats.specs.Stats.{Fact, no_stats, stats_of};
+ghost use Rattle.audit_traffic.specs.declared.events.flow.EventFlow.{EventFlow};
+ghost use Rattle.audit_traffic.specs.declared.gaps.LostEvent.{LostEvent};
+ghost use Rattle.audit_traffic.specs.declared.sequence.Finding.TheVariants as sequence;
+ghost use Rattle.someip_audit.specs.declared.FellDue.TheVariants as due;
+ghost use Rattle.someip_audit.specs.declared.Finding.TheVariants as findings;
+ghost use Rattle.someip_tables.specs.declared.hashed.Origin.{Origin};
+ghost use Rattle.someipctl_accounts.specs.Accounts.{IsAccount};
 ghost use Rattle.someipctl_io.specs.declared.form.Form.{Form};
 ghost use Rattle.someipctl_io.specs.declared.form.Form.TheVariants.{Json, Plain};
 ghost use Rattle.someipctl_io.specs.ToldLines.{line_text};
+ghost use Rattle.someipctl_recordings.specs.Wanted.{WantedValue};
+ghost use Rattle.someipctl_recordings.specs.audit.Subjects.{subject, subject_of_due};
 ghost use Rattle.someipctl_show.specs.VerdictForms.{no_head};
+ghost use Rattle.someipctl_stats.specs.declared.shown.Shown.TheVariants as shown;
+ghost use Rattle.someipctl_stats.specs.Counting.{after_facts, shown_facts};
 ghost use Rattle.someipctl_stats.specs.Examples.{answered, began_again, once, one_of_each, thrice, unanswered, way};
+ghost use Rattle.someipctl_stats.specs.LackLines.{lacks_text};
+ghost use Rattle.someipctl_stats.specs.Micros.{micros_after};
+ghost use Rattle.someipctl_stats.specs.Shown.{lost_count, shown_of, shown_of_due, subject_of};
+ghost use Rattle.someipctl_stats.specs.StatsAccount.{AskedStats, EndsStats, TakesStats, stats_begun};
 ghost use Rattle.someipctl_stats.specs.StatsLines.{discovery_line, event_line, full_line, method_line, millis_text};
 ghost use Rattle.someipctl_stats.specs.StatsText.{figures_text};
 
@@ -67,4 +86,56 @@ pub fn figures_have_an_order()
     ensures none { (form : Form) (limits : FigureLimits) → figures_text form (no_stats limits) ≡ [] }
     ensures each { (limits : FigureLimits) → figures_text Plain (one_of_each limits)
         ≡ codes "method 1234.0421 192.168.0.1:40000 192.168.0.2:40000 calls 3 answers 0 errors 0 unanswered 3 latency - - - -\nevent 1234.8421 192.168.0.2:40000 192.168.0.1:40000 count 1 bytes 20 cycle - - - - gaps 0\ndiscovery 192.168.0.2:40000 192.168.0.1:40000 messages 12 reboots 1\nfull calls\n" }
+{}
+
+/// What is counted in order is a history of figures, which has the newest first. So the laws of `audit_stats` hold of what
+/// is counted of a recording.
+pub fn facts_are_counted_in_order()
+    ensures { (limits : FigureLimits) (earlier facts : List Fact)
+        → after_facts facts (stats_of limits earlier) ≡ stats_of limits (reverse facts ++ earlier) }
+{}
+
+/// From session 7 to session 7 there is one, from 3 to 70 there are 68, and from FFFE to 2 there are four, since 1 comes
+/// after FFFF.
+pub fn lost_sessions_are_counted()
+    ensures one { lost_count 7 7 ≡ 1 }
+    ensures some { lost_count 3 70 ≡ 68 }
+    ensures wrapped { lost_count 0xfffe 2 ≡ 4 }
+{}
+
+/// A time is whole microseconds, and no earlier than the latest before it. Without one it is that.
+pub fn moments_never_fall()
+    ensures rounded { micros_after 0 (Some (record { seconds = 1; nanoseconds = 1999 })) ≡ 1000001 }
+    ensures earlier { micros_after 2000000 (Some (record { seconds = 1; nanoseconds = 1999 })) ≡ 2000000 }
+    ensures without { micros_after 7 None ≡ 7 }
+{}
+
+/// What lacks since a book of the audit was full has a line each.
+pub fn what_lacks_has_a_line()
+    ensures none { lacks_text Plain (record { endpoints = false; gaps = false; reboots = false }) ≡ [] }
+    ensures all { lacks_text Plain (record { endpoints = true; gaps = true; reboots = true })
+        ≡ codes "full endpoints\nfull gaps\nfull reboots\n" }
+    ensures object { lacks_text Json (record { endpoints = false; gaps = true; reboots = false })
+        ≡ codes "{\"kind\":\"full\",\"name\":\"gaps\"}\n" }
+{}
+
+/// The datagrams of a recording determine the text of its figures.
+pub fn a_recording_has_one_text()
+    ensures { (asked : AskedStats) (arrivals : List ArrivalValue) (text other : List ℕ)
+        → IsAccount TakesStats EndsStats (stats_begun asked) arrivals text
+        → IsAccount TakesStats EndsStats (stats_begun asked) arrivals other → text ≡ other }
+{}
+
+/// Sessions that are lost count where `audit` tells their line: they are about what that is about. None does where a
+/// Client ID is asked for, and no reboot either.
+pub fn gaps_count_by_their_lines()
+    ensures at_once { (origin : Origin) (flow : EventFlow) (session first last : ℕ)
+        → subject_of (shown_of origin (findings.EventSession flow session (sequence.Lost first last)))
+        ≡ subject (findings.EventSession flow session (sequence.Lost first last)) }
+    ensures at_the_deadline { (lost : LostEvent) → subject_of (shown_of_due (due.EventLost lost))
+        ≡ Some (subject_of_due (due.EventLost lost)) }
+    ensures of_no_client { (w : WantedValue) (client number : ℕ) (time : Option Time) (origin : Origin) (flow : Flow)
+        → w.client ≡ Some client → shown_facts w time origin (shown.Lost flow number) ≡ [] }
+    ensures no_reboot { (w : WantedValue) (client : ℕ) (time : Option Time) (origin : Origin) (way : Way)
+        → w.client ≡ Some client → shown_facts w time origin (shown.BeganAgain way) ≡ [] }
 {}

@@ -339,7 +339,7 @@ fn begin_with<S: Reassembly + Drop>(
 }
 
 /// Which datagrams an audit looks at.
-fn watch_of<'w>(wanted: &Wanted<'w>) -> WatchRules<'w>
+pub fn watch_of<'w>(wanted: &Wanted<'w>) -> WatchRules<'w>
     ensures ports { result.ports.now ≡ ports_of (view_wanted wanted.now).ports }
     ensures learns { result.learns ≡ learns (view_wanted wanted.now) }
 {

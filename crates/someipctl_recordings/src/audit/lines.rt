@@ -187,7 +187,7 @@ fn deadline_of(told: &FellDue) -> u64
 
 /// The datagram of what fell due: with the request, the first segment, the newest Offer, the Subscribe or the
 /// event that skipped a session.
-pub(crate) fn origin_of_due(told: &FellDue) -> Origin
+pub fn origin_of_due(told: &FellDue) -> Origin
     ensures { result ≡ origin_of_due told.now }
 {
     match told {

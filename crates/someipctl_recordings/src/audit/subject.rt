@@ -51,7 +51,7 @@ impl Subject {
     }
 
     /// An event of a service.
-    fn event(service: u16, event: u16) -> Subject
+    pub fn event(service: u16, event: u16) -> Subject
         ensures { result ≡ about_event service event }
     {
         Subject {
@@ -62,7 +62,7 @@ impl Subject {
     }
 
     /// A call of a client.
-    fn call(service: u16, method: u16, client: u16) -> Subject
+    pub fn call(service: u16, method: u16, client: u16) -> Subject
         ensures { result ≡ about_call service method client }
     {
         Subject {
@@ -130,7 +130,7 @@ pub(crate) fn subject_of_due(told: &FellDue) -> Subject
 
 /// Whether a finding about a subject is told, where its line has this time and its datagram this origin. One
 /// about the audit itself always is.
-pub(crate) fn is_told(
+pub fn is_told(
     wanted: &Wanted<'_>,
     time: Option<Time>,
     origin: &Origin,

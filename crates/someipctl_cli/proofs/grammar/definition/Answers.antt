@@ -12,4 +12,5 @@ returns c =
     let audit = c.adding-audit.ensures _ _ chart c.audit_definition.ensures.shape in
     let explore = c.adding-explore.ensures _ _ audit c.explore_definition.ensures.shape in
     let extract = c.adding-extract.ensures _ _ explore c.extract_definition.ensures.shape in
-    c.adding.ensures _ _ extract c.services_definition.ensures.shape
+    let services = c.adding-services.ensures _ _ extract c.services_definition.ensures.shape in
+    c.adding.ensures _ _ services c.stats_definition.ensures.shape

@@ -26,6 +26,7 @@ returns c = record {
   audit_options = refl;
   extract = refl;
   services = refl;
+  stats = refl;
   bare_expect = ((λ e. cc), inl refl);
   twice = ((λ e. cc), inl refl);
   bare = ((λ e. cc), inl refl);
