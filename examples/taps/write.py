@@ -2,10 +2,12 @@
 
     write.py > two.pcapng
     write.py one > one.pcapng
+    write.py busy > busy.pcapng
 
 In `two` two taps stand on the way between the nodes a and b: tap 0 at a, and tap 1 at b, where packets have VLAN 5. So each
 packet comes twice, at the tap of its receiver 50 microseconds later. One answer is lost between the taps. In `one` a tap
-has only what b sends: ten calls.
+has only what b sends: ten calls. In `busy` a tap has twelve seconds of calls and events. One answer is slow, one does not
+come, and two events are lost.
 """
 import struct
 import sys
@@ -114,14 +116,31 @@ STORY = [
 ]
 
 
-CALLS = [(500 * number, call(number)) for number in range(1, 11)]
+CALLS = [(500_000 * number, call(number)) for number in range(1, 11)]
 
 
-def packets_of_calls():
-    """Each packet of the calls at the tap of what b sends."""
-    for number, (after, (source, destination, data)) in enumerate(CALLS, 1):
+def speed(session):
+    """An event of two bytes."""
+    return udp(A, 30509, B, 40001, message(0x1234, 0x8002, 0, session, 2, b"\x00\x2a"))
+
+
+def busy():
+    """A call every 100 milliseconds and an event about every 50, with the microseconds after the beginning."""
+    yield 0, offer(1)
+    for number in range(1, 121):
+        yield 100_000 * number, call(number)
+        if number < 120:
+            yield 100_000 * number + (40_000 if number == 60 else 2_000 + 7 * number), answer(number)
+    for session in range(1, 241):
+        if session not in (100, 101):
+            yield 50_000 * session + session * 37 % 400, speed(session)
+
+
+def packets_of_one_tap(story):
+    """Each packet of a story at one tap, by microseconds after the beginning."""
+    for number, (after, (source, destination, data)) in enumerate(sorted(story), 1):
         for packet in ipv4(number, source, destination, data):
-            yield BEGIN + after * 1000, 0, ethernet(source, destination, 0, packet)
+            yield BEGIN + after, 0, ethernet(source, destination, 0, packet)
 
 
 def packets():
@@ -143,5 +162,6 @@ def recording(taps, found):
 
 
 if __name__ == "__main__":
-    is_one = sys.argv[1:] == ["one"]
-    sys.stdout.buffer.write(recording(1, packets_of_calls()) if is_one else recording(2, packets()))
+    stories = {"one": CALLS, "busy": busy()}
+    of_one_tap = [recording(1, packets_of_one_tap(stories[word])) for word in sys.argv[1:]]
+    sys.stdout.buffer.write(b"".join(of_one_tap) or recording(2, packets()))

@@ -1,5 +1,6 @@
 """Recordings that fill one book of an audit each, with as many keys as are asked for, and then hit it as often where a
-hit concerns many of them: an event to each receiver of a source, an entry that disturbs flows, a reboot, and so on.
+hit concerns many of them: an event to each receiver of a source, an entry that disturbs flows, a reboot, and so on. Some
+fill the tables of `stats`, of which one holds as many keys, and the others a sixteenth.
 
 Between two hits something comes that the hit undoes, so that no hit finds all done by the one before."""
 import os
@@ -256,6 +257,43 @@ def offers(count):
     return [discovery(A, GROUP, session, some) for session, some in enumerate(batches(found, 2000), 1)]
 
 
+# ---- Figures
+
+SHARE = 16
+
+
+def of_calls(kind, numbers, header, time):
+    """Datagrams of REQUESTs, or of answers."""
+    source, destination = (CLIENT, SERVER) if kind == wire.REQUEST else (SERVER, CLIENT)
+    texts = [wire.message(header(number)._replace(kind=kind), b"") for number in numbers]
+    return joined(source, destination, texts, time)
+
+
+def figures_of_calls(count):
+    """Calls of many methods wait, and then each is answered, at times far apart."""
+    def header(number):
+        return wire.Header(1, number % (count // SHARE), number // 65536, number % 65536, 1, wire.REQUEST, 0)
+
+    found = offered() + of_calls(wire.REQUEST, range(count), header, 0)
+    for at, some in enumerate(batches(range(count), 2000)):
+        found += of_calls(wire.RESPONSE, some, header, (at + 1) * SECOND)
+    return found
+
+
+def figures_of_events(count):
+    """Many events, each with cycles of all lengths."""
+    found = offered()
+    for at in range(2 * SHARE):
+        texts = [event(1 + at, 1, number) for number in range(count // SHARE)]
+        found += joined(SERVER, CLIENT, texts, (1 << at) * 1000)
+    return found
+
+
+def figures_of_ways(count):
+    """Many nodes send messages of Service Discovery, and begin again each time."""
+    return [discovery(node(number), GROUP, 1) for _ in range(SHARE) for number in range(count // SHARE)]
+
+
 def named(*makers):
     return {make.__name__.replace("_", " "): make for make in makers}
 
@@ -264,7 +302,11 @@ BOOKS = named(
     event_receivers, event_changes, event_changes_at_once, event_withdrawals, reboots, reboots_of_offers,
     reboots_of_subscribes, reboots_of_clients, reboots_of_servers, reboots_of_senders, reboots_of_receivers,
     events_to_subscriptions, events_to_nobody, subscribes_after_told, withdrawals_of_subscriptions, stops_of_subscriptions,
-    expiring, silent_events, stops_of_watches, calls, gaps, ways, offers)
+    expiring, silent_events, stops_of_watches, calls, gaps, ways, offers, figures_of_calls, figures_of_events,
+    figures_of_ways)
+
+# Which numbers `stats` has to tell of those that fill its tables: their sum says that nothing was left out.
+FIGURES = {"figures of calls": "answers", "figures of events": "count", "figures of ways": "reboots"}
 
 # The rules by which some are audited.
 RULES = dict.fromkeys(("silent events", "stops of watches"), "[[rule]]\ncycle_ms = 1000\n")

@@ -1,9 +1,9 @@
-"""growth: what an audit costs where a book is full, beside half of it.
+"""growth: what an audit costs where a book is full, or `stats` where a table is, beside half of it.
 
-Each recording of `books.py` fills one book of `audit` with its limit of keys, and hits it as often where a hit concerns
-many of them. The same is made with half as many keys and hits. The one may cost 2.3 times the instructions of the
-other, as `valgrind --tool=callgrind` counts them. Where that is not there, user time is compared, with 3.2 times. What is
-to be told of each key has to be.
+Each recording of `books.py` fills one book of `audit`, or one table of `stats`, with its limit of keys, and hits it as
+often where a hit concerns many of them. The same is made with half as many keys and hits. The one may cost 2.3 times the
+instructions of the other, as `valgrind --tool=callgrind` counts them. Where that is not there, user time is compared, with
+3.2 times. What is to be told of each key has to be.
 Run by `sweeps/run growth`: sweep.py PROGRAM [BOOK..]; with words these books are tried, or `all`, and their costs printed.
 """
 import concurrent.futures
@@ -24,7 +24,7 @@ VALGRIND = shutil.which("valgrind")
 
 
 def instructions(call):
-    """The instructions of an audit."""
+    """The instructions of a call."""
     run = subprocess.run([VALGRIND, "--tool=callgrind", "--callgrind-out-file=/dev/null", *call],
                          stdout=subprocess.DEVNULL, stderr=subprocess.PIPE, text=True, check=False)
     counted = re.search(r"Collected : (\d+)", run.stderr)
@@ -34,7 +34,7 @@ def instructions(call):
 
 
 def user_time(call):
-    """The least user time of three audits, in seconds."""
+    """The least user time of three calls, in seconds."""
     times = []
     for _ in range(3):
         before = resource.getrusage(resource.RUSAGE_CHILDREN).ru_utime
@@ -47,12 +47,12 @@ def user_time(call):
 
 def look_at(call, name, keys):
     """Raises an error where what is to be told of each key is told of fewer."""
-    kind = books.TOLD.get(name)
+    kind = books.TOLD.get(name) or books.FIGURES.get(name)
     if kind is None:
         return
     run = subprocess.run(call, stdout=subprocess.PIPE, stderr=subprocess.DEVNULL, text=True, check=False)
-    told = re.search(rf"^{kind} (\d+)$", run.stdout, re.M)
-    if not told or int(told[1]) < keys * 15 // 16:
+    form = rf"^(?:method|event|discovery) .* {kind} (\d+)\b" if name in books.FIGURES else rf"^{kind} (\d+)$"
+    if sum(map(int, re.findall(form, run.stdout, re.M))) < keys * 15 // 16:
         raise RuntimeError(f"{name}: of {keys} keys too few show {kind}")
 
 
@@ -60,7 +60,7 @@ def cost(program, room, name, keys):
     path = os.path.join(room, f"{name.replace(' ', '-')}.{keys}")
     with open(path, "wb") as out:
         out.write(wire.pcap(books.BOOKS[name](keys), nanoseconds=True))
-    call = [program, "audit", path]
+    call = [program, "stats" if name in books.FIGURES else "audit", path]
     if name in books.RULES:
         with open(path + ".toml", "w", encoding="utf8") as out:
             out.write(books.RULES[name])
