@@ -39,7 +39,8 @@
 # The program itself runs `show`, without a types file and with one, `recording --whole --types`, `audit`, both of these
 # over copies, fragments and several files, `payload`, `vectors` and `run` so, and for objects `recording`, `audit` and
 # `run`. Each refused growth, also of the command line, comes to exit status 3, `out of memory` on standard error, and a
-# beginning of the expected text on standard output. But where an index of an audit was refused, nothing differs.
+# beginning of the expected text on standard output. But an audit may also print all of that text, with its status: the
+# script does not look which memory it did without.
 #
 # The gate runs each sweep once with nothing refused: `memory all again`, before the words of the other sweeps.
 #
@@ -127,8 +128,7 @@ is_beginning() {
     head -c "$(wc -c <"$1" | tr -d ' ')" "$2" | cmp -s "$1" -
 }
 
-# Whether the command $1 did all that it does with nothing refused: an audit whose index is refused memory goes over its
-# books in place of it.
+# Whether the command $1 is an audit that did all that it does with nothing refused, as one may whose index was refused.
 does_without() {
     [ "$1" = audit ] && is_tolerated "$growth" "$scratch/unrefused" "$ended"
 }
