@@ -39,8 +39,10 @@
 # The program itself runs `show`, without a types file and with one, `recording --whole --types`, `audit`, both of these
 # over copies, fragments and several files, `payload`, `vectors` and `run` so, and for objects `recording`, `audit` and
 # `run`. Each refused growth, also of the command line, comes to exit status 3, `out of memory` on standard error, and a
-# beginning of the expected text on standard output. But an audit may also print all of that text, with its status: the
-# script does not look which memory it did without.
+# beginning of the expected text on standard output. Where one growth alone is refused, the program may go on, and then
+# nothing differs: it asks a second time, or an audit looks at all that a book holds from then on, in place of an index.
+# How many growths of a call are such stands with the call, so that an error of memory that nobody tells is found. The
+# recordings of an audit are such that another growth comes after those of its indexes.
 #
 # The gate runs each sweep once with nothing refused: `memory all again`, before the words of the other sweeps.
 #
@@ -128,28 +130,31 @@ is_beginning() {
     head -c "$(wc -c <"$1" | tr -d ' ')" "$2" | cmp -s "$1" -
 }
 
-# Whether the command $1 is an audit that did all that it does with nothing refused, as one may whose index was refused.
-does_without() {
-    [ "$1" = audit ] && is_tolerated "$growth" "$scratch/unrefused" "$ended"
-}
-
-# Refuses each growth in turn of the program on these words.
+# Refuses each growth in turn of the program on the words after $1. It goes on without so many of them as $1 says, where
+# one alone is refused.
 sweep_program() {
+    expected=$1
+    shift
     call_refused 0 1 "$program" "$@"
     cp "$scratch/out" "$scratch/unrefused"
     ended=$status
+    without=
     growth=1
     while :; do
         call_until_refused "$growth" "$scratch/unrefused" "$ended" "$program" "$@"
         [ "$seen" -ge "$growth" ] || break
         growths=$((growths + 1))
         judged=$((judged + 1))
+        [ "$row" -eq 1 ] || without="$without $growth"
         came=$(cat "$scratch/err")
         [ "$status $came" = "3 out of memory" ] && is_beginning "$scratch/out" "$scratch/unrefused" ||
-            does_without "$1" ||
             tell_growth "someipctl $1" "status $status, error '$came', $(wc -c <"$scratch/out" | tr -d ' ') bytes printed"
         growth=$((growth + 1))
     done
+    growth=${without# }
+    row=1
+    [ "$(echo $without | wc -w)" -eq "$expected" ] ||
+        tell_growth "someipctl $1" "goes on without each of these, and not of $expected"
 }
 
 sweep_memory() {
@@ -166,19 +171,19 @@ sweep_memory() {
         sweep_kind "$kind" again
         sweep_without_memory "$kind"
     done
-    sweep_program show "$examples/segments.txt"
-    sweep_program show --types "$examples/types.toml" "$examples/speed.txt"
-    sweep_program recording --whole --types "$examples/types.toml" "$examples/route.pcap"
-    sweep_program audit --ports 30509 "$examples/route.pcap"
-    sweep_program recording --dedup 5 --frames --endpoints --interface 0,1 --address 192.168.0.1,224.0.0.251 \
+    sweep_program 1 show "$examples/segments.txt"
+    sweep_program 1 show --types "$examples/types.toml" "$examples/speed.txt"
+    sweep_program 1 recording --whole --types "$examples/types.toml" "$examples/route.pcap"
+    sweep_program 9 audit --ports 30509 "$examples/route.pcap" "$examples/audit.pcap"
+    sweep_program 4 recording --dedup 5 --frames --endpoints --interface 0,1 --address 192.168.0.1,224.0.0.251 \
         --service 1234,ffff "$examples/taps/two.pcapng" "$examples/one.pcap"
-    sweep_program audit --dedup 5 --vlan 5 "$examples/taps/two.pcapng" "$examples/one.pcap"
-    sweep_program payload 'array/8<2,array/8<2,u8>>' 050201020103
-    sweep_program vectors "$examples/vectors/two.txt"
-    sweep_program run "$examples/runs/two.toml" "$examples/runs/two.txt"
-    sweep_program recording --json --frames --endpoints --whole --types "$examples/types.toml" "$examples/route.pcap"
-    sweep_program audit --json --ports 30509 "$examples/route.pcap"
-    sweep_program run --json --lines "$examples/runs/two.toml" "$examples/runs/two.txt"
+    sweep_program 5 audit --dedup 5 --vlan 5 "$examples/taps/two.pcapng" "$examples/one.pcap"
+    sweep_program 1 payload 'array/8<2,array/8<2,u8>>' 050201020103
+    sweep_program 1 vectors "$examples/vectors/two.txt"
+    sweep_program 16 run "$examples/runs/two.toml" "$examples/runs/two.txt"
+    sweep_program 1 recording --json --frames --endpoints --whole --types "$examples/types.toml" "$examples/route.pcap"
+    sweep_program 9 audit --json --ports 30509 "$examples/route.pcap" "$examples/audit.pcap"
+    sweep_program 16 run --json --lines "$examples/runs/two.toml" "$examples/runs/two.txt"
     [ "$findings" -eq 0 ] || return 1
     echo "$part: $growths growths refused, $judged of them judged, no finding"
 }
