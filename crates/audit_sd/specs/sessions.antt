@@ -1,5 +1,6 @@
 pub mod SessionRules
 pub mod SessionBooks
+pub mod PairOrder
 pub mod Histories
 pub mod Examples
 pub mod Reasons

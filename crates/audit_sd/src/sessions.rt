@@ -11,6 +11,7 @@ mod last;
 pub mod laws;
 mod message;
 mod others;
+mod pair;
 mod session_book;
 
 pub use finding::Finding;

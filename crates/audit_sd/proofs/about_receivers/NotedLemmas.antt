@@ -1,5 +1,5 @@
 -- Events that were told, as they come and go.
-use Rattle.std.proofs.Common.{◌≡◌, ◌≢◌, ◌⊎◌, inl, inr, ℕ, ◌==◌, Bool, true, false, cond, not, ◌&&◌, List, [], ◌∷◌, length, map, Option, None, Some, is_some, refl, ap, sym, ◌∙◌}
+use Rattle.std.proofs.Common.{◌≡◌, ◌≢◌, ◌⊎◌, inl, inr, ℕ, ◌==◌, Bool, true, false, cond, not, ◌&&◌, List, [], ◌∷◌, map, Option, None, Some, is_some, refl, ap, sym, ◌∙◌}
 use Rattle.std.proofs.lemmas.Bool.{and_from, and_parts}
 use Rattle.std.proofs.lemmas.Bool.Decides.{nat_tests}
 use Rattle.std.proofs.Common.{arith}
@@ -12,7 +12,6 @@ use Rattle.std.specs.FinMap.{FinMap, empty, entries, find, get, get-empty, get-e
 use Rattle.std.specs.declared.net.socket_addr.SocketAddrV4.{SocketAddrV4}
 use Rattle.someip_tables.specs.Distinct.{are_distinct}
 use Rattle.someip_tables.specs.Endpoints.{address_cmp, endpoint_cmp}
-use Rattle.someip_tables.specs.Tables.{map_of}
 use Rattle.someip_tables.proofs.Entries.{entries_distinct, len-from_entries, none_found, own_test, same_by_test}
 use Rattle.audit_index.specs.Places.{AreAt, AreOnTheWay}
 use Rattle.audit_index.proofs.PlaceLemmas.{way_end}
@@ -26,7 +25,7 @@ use Rattle.audit_sd.specs.receivers.NotedEvents.{becomes_untold, is_noted, told_
 use Rattle.audit_sd.specs.receivers.PlaceOrder.{ends}
 use Rattle.audit_sd.specs.receivers.ReceiverPlaces.{end_at, end_cmp, end_of}
 use Rattle.audit_sd.specs.receivers.ReceiverRules.{goes_by}
-use Rattle.audit_sd.specs.receivers.ReceiverTables.{Told, untold}
+use Rattle.audit_sd.specs.receivers.ReceiverTables.{untold}
 
 abbrev units : List (Delivery × Noted) → List (Delivery × Unit {0})
 units es = map (λ e. (e.0, tt)) es

@@ -1,8 +1,8 @@
 -- Subscriptions at their places, as they come and go.
-use Rattle.std.proofs.Common.{◌≡◌, ◌≢◌, ◌⊎◌, inl, inr, ℕ, ◌==◌, Bool, true, false, cond, not, ◌&&◌, ◌||◌, List, Option, None, Some, is_some, refl, ap, sym, subst, ◌∙◌}
+use Rattle.std.proofs.Common.{◌≡◌, ◌≢◌, ◌⊎◌, inl, inr, ℕ, Bool, true, false, cond, not, ◌||◌, List, Option, None, Some, is_some, refl, ap, sym, subst, ◌∙◌}
 use Rattle.std.specs.List.{list_any}
 use Rattle.std.specs.Ordering.{eq_by_cmp}
-use Rattle.std.specs.FinMap.{contains_key-keys, empty, get, get-empty, get-insert, get-remove, get-retain_keys, insert, keys, remove, retain_keys, same_map}
+use Rattle.std.specs.FinMap.{contains_key-keys, empty, get, get-empty, get-remove, get-retain_keys, insert, keys, remove, retain_keys, same_map}
 use Rattle.std.proofs.lemmas.Bool.{and_from, and_parts, eq-eqb, eqb-true}
 use Rattle.std.specs.declared.net.ipv4_addr.Ipv4Addr.{Ipv4Addr}
 use Rattle.someip_tables.specs.declared.lasting.Lasting.{Lasting}
@@ -18,7 +18,7 @@ use Rattle.someip_tables.proofs.MapLaws.{get-insert_own}
 use Rattle.audit_index.specs.Places.{AreAt, AreOnTheWay}
 use Rattle.audit_index.specs.Slots.{is_same_slot}
 use Rattle.audit_index.proofs.OwnerLemmas.{neither}
-use Rattle.audit_index.proofs.PlaceLemmas.{at_insert, at_left, at_more, at_others, but_others, but_settled, but_taken, way_end}
+use Rattle.audit_index.proofs.PlaceLemmas.{at_insert, at_more, at_others, but_others, but_settled, but_taken, way_end}
 use Rattle.audit_sd.specs.declared.subscriptions.key.SubscriptionKey.{SubscriptionKey}
 use Rattle.audit_sd.specs.declared.receivers.delivery.Delivery.{Delivery}
 use Rattle.audit_sd.specs.declared.receivers.entry.WithdrawnOffer.{WithdrawnOffer}
@@ -27,7 +27,7 @@ use Rattle.audit_sd.specs.subscriptions.SubscriptionKeys.{subscription_cmp}
 use Rattle.audit_sd.specs.subscriptions.SubscriptionOrder.{subscriptions_total, exact_subscriptions}
 use Rattle.audit_sd.specs.subscriptions.SubscribeRules.{is_of}
 use Rattle.audit_sd.specs.receivers.PlaceOrder.{ends, offers}
-use Rattle.audit_sd.specs.receivers.ReceiverPlaces.{AreFound, AreFoundButOf, AreFoundButTo, becomes_ended, end_by, end_cmp, end_of, is_any, is_by, offer_of, withdrawn_cmp}
+use Rattle.audit_sd.specs.receivers.ReceiverPlaces.{AreFound, AreFoundButOf, AreFoundButTo, becomes_ended, end_at, end_by, end_of, endpoint_in, is_any, is_by, offer_of, withdrawn_cmp}
 use Rattle.audit_sd.specs.receivers.ReceiverRules.{goes_by, is_to}
 use Rattle.audit_sd.specs.receivers.ReceiverTables.{Subscriptions, is_subscribed}
 use Rattle.audit_sd.proofs.about_receivers.SubscribedLemmas.{by_one, has_one}
@@ -359,3 +359,24 @@ module _ (delivery : Delivery) (m : Subscriptions) where
           let here : e (end_of delivery) one.0 ≡ true = ap (λ x. e x one.0) (sym (its_end one.0 one.1 one.3)) ∙ found one.0 one.1 one.2 refl in
           let not_here : e (end_of delivery) one.0 ≡ false = none one.0 in
           absurd (cc)
+
+-- ---- one goes on with its endpoint
+
+no_end : (end : SocketAddrV4) (before : Option SocketAddrV4) → before ≡ None → before ≡ Some end → ⊥
+no_end end before none some = cc
+
+one_end : (a b : SocketAddrV4) → Some a ≡ Some b → a ≡ b
+one_end a b is = cc
+
+-- it stays at its places
+pub goes_on : (e : AtEnds) (o : AtOffers) (w : AtOwners) (m n : Subscriptions) (one : SubscriptionKey) (lasting : Lasting SocketAddrV4) → n ≡ insert m one lasting
+    → endpoint_in (get m one) ≡ Some lasting.value → AreFound e o w m → AreFound e o w n
+goes_on e o w m n one lasting is same found = cases (get m one) refl same
+  where
+    cases : (before : Option (Lasting SocketAddrV4)) → get m one ≡ before → endpoint_in before ≡ Some lasting.value → AreFound e o w n
+    cases None had goes = absurd (no_end lasting.value (endpoint_in None) refl goes)
+    cases (Some earlier) had goes =
+        let value : earlier.value ≡ lasting.value = one_end earlier.value lasting.value goes in
+        entered e e e o o w w m n one lasting is
+        (let P : SocketAddrV4 → Type 0 = λ end. e (end_at one end) one ≡ true in subst P value (found.by_end one earlier had refl)) (found.by_offer one earlier had refl)
+        (found.by_client one earlier had refl) (found.by_server one earlier had refl) (λ _ _ h. h) (λ _ _ h. h) (λ _ _ h. h) (λ _ _ _ h. h) found

@@ -16,8 +16,9 @@ use Rattle.audit_sd.specs.declared.sessions.last.Last.{Last}
 use Rattle.audit_sd.specs.declared.sessions.message.SdMessage.{SdMessage}
 use Rattle.audit_sd.specs.sessions.SessionRules.{as_last, counts, has_session, is_same_stamp, judged, stamp_of, told_uncounted}
 use Rattle.audit_sd.specs.sessions.SessionBooks.{Pairs, Sessions, counts_in, pair_cmp, last_of, pairs_before, pairs_after, sessions_after, sessions_with, told_by, told_of}
+use Rattle.audit_sd.specs.sessions.PairOrder.{pairs_total, exact_pairs}
 use Rattle.audit_sd.specs.sessions.Histories.{last_in, shown_after, sessions_of}
-use Rattle.audit_sd.proofs.about_sessions.PairLemmas.{pairs_total, exact_pairs, both_tie, after_grows}
+use Rattle.audit_sd.proofs.about_sessions.PairLemmas.{both_tie, after_grows}
 
 -- what is kept of a pair once a message came that counts
 get-after : (message : SdMessage) (pairs : Pairs) (sender destination : Ipv4Addr) → finite.get (pairs_after message pairs) (sender, destination)

@@ -19,7 +19,8 @@ use Rattle.someip_tables.proofs.Entries.{own_test, same_by_test}
 use Rattle.audit_sd.specs.declared.sessions.last.Last.{Last}
 use Rattle.audit_sd.specs.sessions.OtherPairs.{IsLess}
 use Rattle.audit_sd.specs.sessions.SessionBooks.{Pairs, is_other, pair_cmp}
-use Rattle.audit_sd.proofs.about_sessions.PairLemmas.{exact_pairs, known_is, pairs_total}
+use Rattle.audit_sd.specs.sessions.PairOrder.{pairs_total, exact_pairs}
+use Rattle.audit_sd.proofs.about_sessions.PairLemmas.{known_is}
 
 -- ---- one pair
 

@@ -5,15 +5,11 @@ use Rattle.std.proofs.lemmas.Bool.{ltb-true}
 use Rattle.std.specs.declared.cmp.Ordering.{Ordering}
 use Rattle.std.specs.declared.cmp.Ordering.TheVariants.{Less, Equal, Greater}
 use Rattle.std.specs.Ordering.{eq_by_cmp, is_eq, ordering_then}
-use Rattle.std.specs.Cmp.{IsTotalOrder}
-use Rattle.std.proofs.lemmas.Map.Lookups.{CmpEqualImpliesEq}
 use Rattle.std.specs.BTreeMap as tree
 use Rattle.std.specs.BTreeMap.{BTreeMap, btree_map_len, IsOrdered}
 use Rattle.std.specs.FinMap as finite
 use Rattle.std.specs.declared.net.ipv4_addr.Ipv4Addr.{Ipv4Addr}
 use Rattle.someip_tables.specs.Endpoints.{address_cmp}
-use Rattle.someip_tables.specs.Orders.{KeyOrder, by_pair}
-use Rattle.someip_tables.specs.EndpointOrder.{addresses}
 use Rattle.someip_tables.specs.Tables.{map_of}
 use Rattle.someip_tables.proofs.Trees.{get-map_of, len-map_of}
 use Rattle.someip_tables.proofs.Entries.{len-retain_keys-≤}
@@ -24,15 +20,7 @@ use Rattle.audit_sd.specs.declared.sessions.last.Last.{Last}
 use Rattle.audit_sd.specs.sessions.SessionRules.{as_last, stamp_of}
 use Rattle.audit_sd.specs.declared.sessions.message.SdMessage.{SdMessage}
 use Rattle.audit_sd.specs.sessions.SessionBooks.{Pairs, pair_cmp, is_other, last_of, pairs_after}
-
-order : KeyOrder pair_cmp
-order = by_pair addresses addresses
-
-pub pairs_total : IsTotalOrder pair_cmp
-pairs_total = order.total
-
-pub exact_pairs : CmpEqualImpliesEq pair_cmp
-exact_pairs = order.exact
+use Rattle.audit_sd.specs.sessions.PairOrder.{pairs_total, exact_pairs}
 
 -- what is known of a pair
 pub known_is : (held : BTreeMap (Ipv4Addr × Ipv4Addr) Last) (pair : Ipv4Addr × Ipv4Addr) → tree.get pair_cmp held pair ≡ finite.get (map_of pair_cmp held.entries) pair

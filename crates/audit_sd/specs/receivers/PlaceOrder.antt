@@ -15,8 +15,14 @@ offers =
     by_parts (by_pair addresses (by_pair numbers (by_pair numbers numbers))) (λ o. (o.server, (o.service, (o.instance, o.major))))
     (λ p. record { server = p.0; service = p.1.0; instance = p.1.1.0; major = p.1.1.1 }) (λ _. refl)
 
+pub ends_total : IsTotalOrder end_cmp
+ends_total = ends.total
+
 pub exact_ends : CmpEqualImpliesEq end_cmp
 exact_ends = ends.exact
+
+pub offers_total : IsTotalOrder withdrawn_cmp
+offers_total = offers.total
 
 pub exact_offers : CmpEqualImpliesEq withdrawn_cmp
 exact_offers = offers.exact

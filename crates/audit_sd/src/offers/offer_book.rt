@@ -14,8 +14,8 @@ use crate::offers::entry::{OfferEntry, Standing};
 use crate::offers::finding::{Expired, Finding};
 use crate::offers::key::OfferKey;
 use audit_index::OwnedTable;
-use someip_tables::hashed::Room;
-use someip_tables::{Deadline, Moment, is_same_key};
+use someip_tables::hashed::{Room, is_same_address, is_same_endpoint};
+use someip_tables::{Deadline, Moment};
 use std::alloc::{AllocError, Global};
 use std::marker::Model;
 use std::net::{Ipv4Addr, SocketAddrV4};
@@ -176,7 +176,7 @@ fn moved_by(
     ensures { result ≡ moved_by entry.now endpoint standing }
 {
     let offer = standing?;
-    if is_of(&offer, *entry.origin.from.ip()) && is_same_key(&offer.endpoint, &endpoint) {
+    if is_of(&offer, *entry.origin.from.ip()) && is_same_endpoint(&offer.endpoint, &endpoint) {
         None
     } else {
         Some(Finding::Moved)
@@ -206,7 +206,7 @@ fn is_offered_by(standing: Option<Standing>, sender: Ipv4Addr) -> bool
 fn is_of(offer: &Standing, sender: Ipv4Addr) -> bool
     ensures { result ≡ is_of sender offer.now }
 {
-    is_same_key(offer.origin.from.ip(), &sender)
+    is_same_address(offer.origin.from.ip(), &sender)
 }
 
 /// Ends the offers of a sender.

@@ -2,7 +2,9 @@
 ghost use Rattle.audit_sd.specs.receivers.PlaceOrder.{exact_offers};
 
 use crate::subscriptions::{EntryKind, SubscriptionKey};
+use audit_index::compare_addresses;
 use someip_tables::Key;
+use std::cmp::Ordering;
 use std::net::{Ipv4Addr, SocketAddrV4};
 
 /// An entry of an eventgroup: with a TTL above 0 a Subscribe or an Ack, else a StopSubscribe or a Nack
@@ -22,7 +24,7 @@ pub struct ReceiverEntry {
 }
 
 /// An offer that its server withdrew by a StopOffer: by rising address of the server, and then by the numbers.
-#[derive(Clone, Copy, Debug, PartialEq, Eq, PartialOrd, Ord)]
+#[derive(Clone, Copy, Debug, PartialEq, Eq)]
 pub struct WithdrawnOffer {
     /// The address that offered.
     pub server: Ipv4Addr,
@@ -36,4 +38,52 @@ pub struct WithdrawnOffer {
 
 impl Key for WithdrawnOffer {
     ghost exact = { exact_offers };
+}
+
+impl PartialOrd for WithdrawnOffer {
+    ghost use Rattle.std.specs.Prelude.{Some, refl};
+    ghost use Rattle.std.specs.Cmp.{partial_order_from_agreeing_total};
+    ghost use Rattle.audit_sd.specs.receivers.ReceiverPlaces.{withdrawn_cmp};
+    ghost use Rattle.audit_sd.specs.receivers.PlaceOrder.{offers_total};
+    ghost use Rattle.std.specs.Cmp.Rules.{comparing};
+    ghost use Rattle.std.proofs.Common.{rules};
+
+    ghost partial_cmp = { λ x y. Some (withdrawn_cmp x y) };
+
+    ghost laws = { partial_order_from_agreeing_total withdrawn_cmp offers_total (λ x y. refl) (Prim.search (comparing, rules)) };
+
+    fn partial_cmp(&self, other: &WithdrawnOffer) -> Option<Ordering> {
+        Some(self.cmp(other))
+    }
+}
+
+/// The address is compared as a number: octet by octet takes longer.
+impl Ord for WithdrawnOffer {
+    ghost use Rattle.std.specs.Cmp.Rules.{comparing};
+    ghost use Rattle.std.proofs.Common.{rules};
+    ghost use Rattle.audit_sd.specs.receivers.ReceiverPlaces.{withdrawn_cmp};
+    ghost use Rattle.audit_sd.specs.receivers.PlaceOrder.{offers_total};
+
+    ghost cmp = { withdrawn_cmp };
+
+    ghost total = { offers_total };
+
+    ghost matches_partial_cmp = { Prim.search (comparing, rules) };
+
+    ghost matches_eq = { Prim.search (comparing, rules) };
+
+    fn cmp(&self, other: &WithdrawnOffer) -> Ordering {
+        match compare_addresses(&self.server, &other.server) {
+            Ordering::Equal => {}
+            different => return different,
+        }
+        match self.service.cmp(&other.service) {
+            Ordering::Equal => {}
+            different => return different,
+        }
+        match self.instance.cmp(&other.instance) {
+            Ordering::Equal => self.major.cmp(&other.major),
+            different => different,
+        }
+    }
 }

@@ -5,11 +5,14 @@ ghost use Rattle.audit_sd.specs.receivers.ReceiverPlaces.{end_at, end_of};
 
 use crate::receivers::delivery::Delivery;
 use crate::subscriptions::SubscriptionKey;
+use audit_index::compare_addresses;
 use someip_tables::Key;
+use someip_tables::hashed::compare_endpoints;
+use std::cmp::Ordering;
 use std::net::{Ipv4Addr, SocketAddrV4};
 
 /// The endpoint to which the events of a service go from a server.
-#[derive(Clone, Copy, Debug, PartialEq, Eq, PartialOrd, Ord)]
+#[derive(Clone, Copy, Debug, PartialEq, Eq)]
 pub(crate) struct EventEnd {
     /// The address that they come from.
     pub(crate) server: Ipv4Addr,
@@ -21,6 +24,50 @@ pub(crate) struct EventEnd {
 
 impl Key for EventEnd {
     ghost exact = { exact_ends };
+}
+
+impl PartialOrd for EventEnd {
+    ghost use Rattle.std.specs.Prelude.{Some, refl};
+    ghost use Rattle.std.specs.Cmp.{partial_order_from_agreeing_total};
+    ghost use Rattle.audit_sd.specs.receivers.ReceiverPlaces.{end_cmp};
+    ghost use Rattle.audit_sd.specs.receivers.PlaceOrder.{ends_total};
+    ghost use Rattle.std.specs.Cmp.Rules.{comparing};
+    ghost use Rattle.std.proofs.Common.{rules};
+
+    ghost partial_cmp = { λ x y. Some (end_cmp x y) };
+
+    ghost laws = { partial_order_from_agreeing_total end_cmp ends_total (λ x y. refl) (Prim.search (comparing, rules)) };
+
+    fn partial_cmp(&self, other: &EventEnd) -> Option<Ordering> {
+        Some(self.cmp(other))
+    }
+}
+
+/// The address and the endpoint are compared as numbers: octet by octet takes longer.
+impl Ord for EventEnd {
+    ghost use Rattle.std.specs.Cmp.Rules.{comparing};
+    ghost use Rattle.std.proofs.Common.{rules};
+    ghost use Rattle.audit_sd.specs.receivers.ReceiverPlaces.{end_cmp};
+    ghost use Rattle.audit_sd.specs.receivers.PlaceOrder.{ends_total};
+
+    ghost cmp = { end_cmp };
+
+    ghost total = { ends_total };
+
+    ghost matches_partial_cmp = { Prim.search (comparing, rules) };
+
+    ghost matches_eq = { Prim.search (comparing, rules) };
+
+    fn cmp(&self, other: &EventEnd) -> Ordering {
+        match compare_addresses(&self.server, &other.server) {
+            Ordering::Equal => {}
+            different => return different,
+        }
+        match self.service.cmp(&other.service) {
+            Ordering::Equal => compare_endpoints(&self.endpoint, &other.endpoint),
+            different => different,
+        }
+    }
 }
 
 impl EventEnd {

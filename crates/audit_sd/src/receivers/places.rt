@@ -18,7 +18,8 @@ use crate::receivers::event_end::EventEnd;
 use crate::receivers::steps::goes_by;
 use crate::subscriptions::SubscriptionKey;
 use audit_index::Index;
-use someip_tables::{DeadlineMap, Key, is_same_key};
+use someip_tables::hashed::is_same_endpoint;
+use someip_tables::{DeadlineMap, Key};
 use std::net::{Ipv4Addr, SocketAddrV4};
 
 /// The subscriptions that stand, each with the endpoint that its events go to.
@@ -187,7 +188,7 @@ fn leave_unless_same(
         → stands end_cmp subscription_cmp ends.old end other ≡ true
         → stands end_cmp subscription_cmp ends.new end other ≡ true }
 {
-    if !is_same_key(&earlier, &endpoint) {
+    if !is_same_endpoint(&earlier, &endpoint) {
         ends.remove(EventEnd::at(key, earlier), *key);
     }
 }

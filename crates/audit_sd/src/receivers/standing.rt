@@ -1,5 +1,5 @@
 //! The subscriptions that stand, found by what may be asked of them.
-ghost use Rattle.std.specs.Prelude.{◌≡◌, ◌≢◌, IfOk, OnErr, OnOk, is_some, not};
+ghost use Rattle.std.specs.Prelude.{◌≡◌, ◌≢◌, IfOk, OnErr, OnOk, Some, is_some, not, true};
 ghost use Rattle.std.specs.FinMap as finite;
 ghost use Rattle.someip_tables.specs.Lastings.{NeedsMemory, expired, unexpired};
 ghost use Rattle.someip_tables.specs.Tables.{map_of};
@@ -17,7 +17,7 @@ use crate::receivers::places::{Ends, Held, Offers, Owners, drop_one, enter, is_f
 use crate::receivers::steps::{is_of, is_subscribed, is_to};
 use crate::subscriptions::SubscriptionKey;
 use audit_index::Index;
-use someip_tables::{Deadline, DeadlineMap, Moment};
+use someip_tables::{Deadline, DeadlineMap, Moment, is_same_key};
 use std::alloc::{AllocError, Global};
 use std::collections::BTreeSet;
 use std::marker::Model;
@@ -89,7 +89,8 @@ impl Standing {
         endpoint_in(&self.held, key)
     }
 
-    /// One stands with an endpoint until a deadline, in place of an earlier one.
+    /// One stands with an endpoint until a deadline, in place of an earlier one. One that goes on with its endpoint
+    /// stays at its places.
     pub(crate) fn insert(
         &mut self,
         key: SubscriptionKey,
@@ -104,6 +105,9 @@ impl Standing {
     {
         let earlier = endpoint_in(&self.held, &key);
         self.held.insert(key, endpoint, until)?;
+        if goes_on(earlier, endpoint) {
+            return Ok(());
+        }
         let is_entered = enter(
             &mut self.ends,
             &mut self.offers,
@@ -212,6 +216,16 @@ impl Standing {
             return is_subscribed(&self.held, delivery);
         }
         is_found(&self.held, &mut self.ends, delivery)
+    }
+}
+
+/// Whether a subscription that stood with an endpoint, if it did, goes on with this one.
+fn goes_on(earlier: Option<SocketAddrV4>, endpoint: SocketAddrV4) -> bool
+    ensures { result ≡ true → earlier ≡ Some endpoint }
+{
+    match earlier {
+        Some(earlier) => is_same_key(&earlier, &endpoint),
+        None => false,
     }
 }
 

@@ -18,8 +18,8 @@ use crate::receivers::entry::{ReceiverEntry, WithdrawnOffer};
 use crate::receivers::places::Held;
 use crate::receivers::standing::Standing;
 use crate::subscriptions::{EntryKind, SubscriptionKey};
-use someip_tables::hashed::Room;
-use someip_tables::{Deadline, Moment, is_same_key};
+use someip_tables::hashed::{Room, is_same_address, is_same_endpoint};
+use someip_tables::{Deadline, Moment};
 use std::alloc::AllocError;
 use std::net::{Ipv4Addr, SocketAddrV4};
 
@@ -95,15 +95,15 @@ pub(crate) fn is_silent(told_full: bool, now: Moment, settled: Moment) -> bool
 pub(crate) fn goes_by(delivery: &Delivery, key: &SubscriptionKey, endpoint: SocketAddrV4) -> bool
     ensures { result ≡ goes_by delivery.now key.now endpoint }
 {
-    is_same_key(&key.server, &delivery.server)
-        && (key.service == delivery.service && is_same_key(&endpoint, &delivery.endpoint))
+    is_same_address(&key.server, &delivery.server)
+        && (key.service == delivery.service && is_same_endpoint(&endpoint, &delivery.endpoint))
 }
 
 /// Whether a subscription is to an offer.
 pub(crate) fn is_to(key: &SubscriptionKey, offer: WithdrawnOffer) -> bool
     ensures { result ≡ is_to offer key.now }
 {
-    is_same_key(&key.server, &offer.server)
+    is_same_address(&key.server, &offer.server)
         && (key.service == offer.service
             && (key.instance == offer.instance && key.major == offer.major))
 }
@@ -112,7 +112,7 @@ pub(crate) fn is_to(key: &SubscriptionKey, offer: WithdrawnOffer) -> bool
 pub(crate) fn is_of(key: &SubscriptionKey, address: Ipv4Addr) -> bool
     ensures { result ≡ is_of address key.now }
 {
-    is_same_key(&key.client, &address) || is_same_key(&key.server, &address)
+    is_same_address(&key.client, &address) || is_same_address(&key.server, &address)
 }
 
 /// Whether an entry is a Subscribe with another endpoint than the one that stands.
@@ -121,7 +121,7 @@ pub(crate) fn moves(entry: &ReceiverEntry, standing: Option<SocketAddrV4>) -> bo
         → result ≡ moves entry.now.kind entry.now.endpoint lasting }
 {
     match (entry.kind, entry.endpoint, standing) {
-        (EntryKind::Subscribe, Some(endpoint), Some(standing)) => !is_same_key(
+        (EntryKind::Subscribe, Some(endpoint), Some(standing)) => !is_same_endpoint(
             &standing, &endpoint,
         ),
         _ => false,

@@ -11,13 +11,13 @@ ghost use Rattle.audit_sd.specs.sessions.OtherPairs.{IsLess};
 ghost use Rattle.audit_sd.specs.sessions.SessionBooks.{is_other, pair_cmp};
 
 use crate::sessions::last::Last;
-use someip_tables::is_same_key;
+use crate::sessions::pair::Pair;
 use std::collections::BTreeMap;
 use std::net::Ipv4Addr;
 use std::ops::Bound;
 
 /// The last message of each sender to each destination.
-pub(crate) type Lasts = BTreeMap<(Ipv4Addr, Ipv4Addr), Last>;
+pub(crate) type Lasts = BTreeMap<Pair, Last>;
 
 /// Forgets what a sender sent, but for what it sent to one destination. It looks at these alone.
 pub(crate) fn forget_others(last: &mut Lasts, sender: Ipv4Addr, destination: Ipv4Addr)
@@ -51,15 +51,19 @@ fn forget_before(last: &mut Lasts, sender: Ipv4Addr, destination: Ipv4Addr)
 }
 
 /// The next pair of a sender after that of a destination.
-fn next_after(last: &Lasts, sender: Ipv4Addr, destination: Ipv4Addr) -> Option<(Ipv4Addr, Ipv4Addr)>
+fn next_after(last: &Lasts, sender: Ipv4Addr, destination: Ipv4Addr) -> Option<Pair>
     ensures other { IfSome result (λ pair. is_other sender destination pair ≡ false) }
     ensures held { IfSome result (λ pair. is_some (finite.get (map_of pair_cmp last.now.entries) pair) ≡ true) }
     ensures none { IfNone result ((to : Ipv4Addr) → address_cmp destination to ≡ Less
         → finite.get (map_of pair_cmp last.now.entries) (sender, to) ≡ None) }
 {
-    let beyond = (Bound::Excluded((sender, destination)), Bound::Unbounded);
+    let known = Pair {
+        sender,
+        destination,
+    };
+    let beyond = (Bound::Excluded(known), Bound::Unbounded);
     let (pair, _) = last.range(beyond).next()?;
-    if is_same_key(&pair.0, &sender) {
+    if pair.is_from(&sender) {
         Some(*pair)
     } else {
         None
@@ -67,19 +71,19 @@ fn next_after(last: &Lasts, sender: Ipv4Addr, destination: Ipv4Addr) -> Option<(
 }
 
 /// The next pair of a sender before that of a destination.
-fn next_before(
-    last: &Lasts,
-    sender: Ipv4Addr,
-    destination: Ipv4Addr,
-) -> Option<(Ipv4Addr, Ipv4Addr)>
+fn next_before(last: &Lasts, sender: Ipv4Addr, destination: Ipv4Addr) -> Option<Pair>
     ensures other { IfSome result (λ pair. is_other sender destination pair ≡ false) }
     ensures held { IfSome result (λ pair. is_some (finite.get (map_of pair_cmp last.now.entries) pair) ≡ true) }
     ensures none { IfNone result ((to : Ipv4Addr) → address_cmp to destination ≡ Less
         → finite.get (map_of pair_cmp last.now.entries) (sender, to) ≡ None) }
 {
-    let before = (Bound::Unbounded, Bound::Excluded((sender, destination)));
+    let known = Pair {
+        sender,
+        destination,
+    };
+    let before = (Bound::Unbounded, Bound::Excluded(known));
     let (pair, _) = last.range(before).next_back()?;
-    if is_same_key(&pair.0, &sender) {
+    if pair.is_from(&sender) {
         Some(*pair)
     } else {
         None

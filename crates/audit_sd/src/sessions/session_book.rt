@@ -15,19 +15,19 @@ use crate::sessions::finding::Finding;
 use crate::sessions::last::Last;
 use crate::sessions::message::SdMessage;
 use crate::sessions::others::forget_others;
+use crate::sessions::pair::Pair;
 use sd_session::Stamp;
 use someip_tables::hashed::Room;
 use std::alloc::{AllocError, Global};
 use std::collections::BTreeMap;
 use std::marker::Model;
-use std::net::Ipv4Addr;
 
 /// The last message of each sender to each destination, as far as a recording was read.
 #[derive(Drop)]
 pub struct SessionBook {
     room: Room,
     overtake_ms: u32,
-    last: BTreeMap<(Ipv4Addr, Ipv4Addr), Last>,
+    last: BTreeMap<Pair, Last>,
 }
 
 impl Model for SessionBook {
@@ -97,18 +97,28 @@ impl SessionBook {
 }
 
 /// Whether the pair of a message may be held.
-fn may_hold(last: &BTreeMap<(Ipv4Addr, Ipv4Addr), Last>, room: Room, message: &SdMessage) -> bool
+fn may_hold(last: &BTreeMap<Pair, Last>, room: Room, message: &SdMessage) -> bool
     ensures { result
         ≡ may_hold room.limit (map_of pair_cmp last.now.entries) (message.now.from, message.now.to) }
 {
-    room.may_hold(last.contains_key(&(message.from, message.to)), last.len())
+    room.may_hold(last.contains_key(&pair_of(message)), last.len())
+}
+
+/// The pair of a message.
+fn pair_of(message: &SdMessage) -> Pair
+    ensures { result ≡ (message.now.from, message.now.to) }
+{
+    Pair {
+        sender: message.from,
+        destination: message.to,
+    }
 }
 
 /// The last message of the pair of a message.
-fn last_of(last: &BTreeMap<(Ipv4Addr, Ipv4Addr), Last>, message: &SdMessage) -> Option<Last>
+fn last_of(last: &BTreeMap<Pair, Last>, message: &SdMessage) -> Option<Last>
     ensures { result ≡ last_of message.now (map_of pair_cmp last.now.entries) }
 {
-    last.get(&(message.from, message.to)).copied()
+    last.get(&pair_of(message)).copied()
 }
 
 /// Whether a message counts: it has a session, and was not overtaken.
@@ -157,7 +167,7 @@ fn told_uncounted(message: &SdMessage) -> Option<Finding>
 
 /// Enters a message that counts whose pair is held, or that there is room for, and says what it shows.
 fn enter(
-    last: &mut BTreeMap<(Ipv4Addr, Ipv4Addr), Last>,
+    last: &mut BTreeMap<Pair, Last>,
     message: &SdMessage,
 ) -> Result<Option<Finding>, AllocError>
     ensures told { IfOk result (λ told. told
@@ -172,7 +182,7 @@ fn enter(
         stamp,
         at: message.at,
     };
-    let Ok(known) = last.insert((message.from, message.to), newest) else {
+    let Ok(known) = last.insert(pair_of(message), newest) else {
         return Err(AllocError);
     };
     let known = stamp_of(known);

@@ -1,13 +1,12 @@
 -- Flows by their addresses.
 use Rattle.std.proofs.Common.{◌≡◌, ◌≢◌, ◌⊎◌, inl, inr, Bool, true, false, cond, not, ◌||◌, Option, None, Some, refl, ap, sym, ◌∙◌}
-use Rattle.std.specs.declared.cmp.Ordering.{Ordering}
 use Rattle.std.specs.declared.net.ipv4_addr.Ipv4Addr.{Ipv4Addr}
 use Rattle.std.specs.Option.{option_map}
 use Rattle.std.specs.Ordering.{eq_by_cmp}
 use Rattle.std.specs.FinMap.{empty, get, get-empty, get-remove, get-retain_keys, remove, retain_keys, same_map}
 use Rattle.someip_tables.specs.Changed.{each_changed}
 use Rattle.someip_tables.specs.Endpoints.{address_cmp}
-use Rattle.someip_tables.specs.EndpointOrder.{addresses, addresses_total, exact_addresses}
+use Rattle.someip_tables.specs.EndpointOrder.{addresses_total, exact_addresses}
 use Rattle.someip_tables.proofs.ChangedLemmas.{get-changed}
 use Rattle.someip_tables.proofs.Entries.{own_test, same_by_test}
 use Rattle.audit_index.specs.Places.{AreAt, AreOnTheWay}

@@ -1,7 +1,7 @@
 -- One flow of its source is forgotten.
-use Rattle.std.proofs.Common.{◌≡◌, ◌≢◌, ◌-◌, ◌≤◌, arith, Bool, true, false, cond, not, ◌&&◌, List, [], ◌∷◌, filter, length, map, Option, None, Some, is_some, refl, ap, sym, subst, ◌∙◌}
+use Rattle.std.proofs.Common.{◌≡◌, ◌≢◌, ◌-◌, ◌≤◌, arith, Bool, true, false, cond, not, ◌&&◌, [], filter, length, Option, None, Some, is_some, refl, ap, sym, subst, ◌∙◌}
 use Rattle.std.specs.Global.{Vec}
-use Rattle.std.specs.List.{All, IsDistinct}
+use Rattle.std.specs.List.{IsDistinct}
 use Rattle.std.specs.List.Sorted.{IsPermutation}
 use Rattle.std.specs.Map.{keys_of, lookup, remove_entry, set_value}
 use Rattle.std.specs.Option.{IfSome}

@@ -14,7 +14,7 @@ use Rattle.someip_tables.specs.EndpointOrder.{addresses_total, exact_addresses}
 use Rattle.someip_tables.proofs.ChangedLemmas.{changed_alike, get-changed}
 use Rattle.someip_tables.proofs.Entries.{own_test, same_by_test}
 use Rattle.audit_index.specs.Places.{AreAt, AreOnTheWay}
-use Rattle.audit_index.proofs.PlaceLemmas.{at_from, way_end}
+use Rattle.audit_index.proofs.PlaceLemmas.{way_end}
 use Rattle.audit_traffic.specs.declared.events.flow.EventFlow.{EventFlow}
 use Rattle.audit_traffic.specs.declared.events.last_event.LastEvent.{LastEvent}
 use Rattle.audit_traffic.specs.declared.events.notification.Notification.{Notification}
@@ -24,7 +24,6 @@ use Rattle.audit_traffic.specs.events.FlowGroups.{once_came, once_changed, once_
 use Rattle.audit_traffic.specs.events.FlowKeys.{flow_cmp}
 use Rattle.audit_traffic.specs.events.FlowOrder.{flows_total, exact_flows}
 use Rattle.audit_traffic.specs.events.FlowPlaces.{all_groups, becomes_disturbed, is_steady, offering_cmp, offering_of, once_disturbed_at, reached, route_cmp, route_of}
-use Rattle.audit_traffic.specs.events.PlaceOrder.{offerings, routes}
 
 -- ---- one flow is disturbed, if it is at a place
 

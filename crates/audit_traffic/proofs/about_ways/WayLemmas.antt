@@ -1,5 +1,5 @@
 -- What a book of ways holds after some messages.
-use Rattle.std.proofs.Common.{◌≡◌, ◌⊎◌, inl, inr, ℕ, zero, suc, ◌+◌, ◌<◌, ◌≤◌, ◌^◌, nat_le, nat_lt, Bool, true, false, cond, not, ◌&&◌, ◌||◌, if◌then◌else◌, List, [], ◌∷◌, ◌++◌, length, Option, None, Some, refl, ap, subst, sym, ◌∙◌, arith}
+use Rattle.std.proofs.Common.{◌≡◌, inl, inr, ℕ, zero, suc, ◌+◌, ◌<◌, ◌≤◌, ◌^◌, nat_le, nat_lt, Bool, true, false, cond, ◌||◌, if◌then◌else◌, List, [], ◌∷◌, ◌++◌, length, None, Some, refl, ap, subst, sym, ◌∙◌, arith}
 use Rattle.std.specs.Option.{is_none, is_some}
 use Rattle.std.specs.List.{flat_map}
 use Rattle.std.specs.Ordering.{eq_by_cmp}
@@ -12,14 +12,14 @@ use Rattle.std.proofs.lemmas.List.Concat.{flat_map-cons}
 use Rattle.someip_tables.specs.Distinct.{are_distinct}
 use Rattle.someip_tables.specs.hashed.Rooms.{may_hold, told_when_full}
 use Rattle.someip_tables.specs.Tables.{map_of}
-use Rattle.someip_tables.proofs.Trees.{entries-map_of, len-map_of}
+use Rattle.someip_tables.proofs.Trees.{len-map_of}
 use Rattle.someip_tables.proofs.Entries.{entries_distinct, none_found, own_test, same_by_test}
 use Rattle.audit_traffic.specs.declared.ways.finding.Finding.TheVariants.{Full}
 use Rattle.audit_traffic.specs.declared.ways.way.OneWay.{OneWay}
 use Rattle.audit_traffic.specs.declared.ways.way.Way.{Way}
 use Rattle.audit_traffic.specs.ways.WayKeys.{back, way_cmp}
 use Rattle.audit_traffic.specs.ways.WayOrder.{exact_ways, ways_total}
-use Rattle.audit_traffic.specs.ways.WayTables.{Numbers, Ways, after_message, is_one_way, number_of, one_more, one_ways, one_ways_in, told_by, told_one_way}
+use Rattle.audit_traffic.specs.ways.WayTables.{Numbers, Ways, after_message, is_one_way, number_of, one_more, one_ways, told_by, told_one_way}
 use Rattle.audit_traffic.specs.ways.WayHistories.{IsAmong, IsOneWay, book_of, kept_of, times}
 
 -- ---- whether it is full

@@ -3,6 +3,7 @@ use Rattle.std.proofs.Common.{None, Some, refl, ap}
 use Rattle.std.specs.Option.{option_cmp}
 use Rattle.std.specs.declared.cmp.Ordering.{Ordering}
 use Rattle.std.specs.Cmp.Lexicographic.{options_total}
+use Rattle.std.specs.Cmp.{IsTotalOrder}
 use Rattle.std.proofs.lemmas.Map.Lookups.{CmpEqualImpliesEq}
 use Rattle.someip_tables.specs.Orders.{KeyOrder, numbers, by_pair, by_parts}
 use Rattle.someip_tables.specs.EndpointOrder.{addresses}
@@ -21,6 +22,9 @@ pub places : KeyOrder place_cmp
 places =
     by_parts (by_pair addresses (by_pair (by_option numbers) (by_option addresses))) (λ p. (p.address, (p.service, p.receiver)))
     (λ p. record { address = p.0; service = p.1.0; receiver = p.1.1 }) (λ _. refl)
+
+pub places_total : IsTotalOrder place_cmp
+places_total = places.total
 
 pub exact_places : CmpEqualImpliesEq place_cmp
 exact_places = places.exact

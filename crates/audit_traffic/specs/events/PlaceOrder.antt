@@ -12,8 +12,14 @@ routes = by_parts (by_pair addresses addresses) (λ r. (r.server, r.receiver)) (
 pub offerings : KeyOrder offering_cmp
 offerings = by_parts (by_pair addresses numbers) (λ o. (o.server, o.service)) (λ p. record { server = p.0; service = p.1 }) (λ _. refl)
 
+pub routes_total : IsTotalOrder route_cmp
+routes_total = routes.total
+
 pub exact_routes : CmpEqualImpliesEq route_cmp
 exact_routes = routes.exact
+
+pub offerings_total : IsTotalOrder offering_cmp
+offerings_total = offerings.total
 
 pub exact_offerings : CmpEqualImpliesEq offering_cmp
 exact_offerings = offerings.exact

@@ -1,10 +1,12 @@
 -- The order of the sessions of events, and their codes.
-use Rattle.std.specs.Prelude.{ℕ, refl}
+use Rattle.std.specs.Prelude.{ℕ, ◌+◌, ◌*◌, List, ◌++◌, refl}
 use Rattle.std.specs.declared.cmp.Ordering.{Ordering}
 use Rattle.std.specs.Ordering.{nat_cmp, ordering_then}
 use Rattle.std.specs.Coded.{Coded, code_by, coded×, coded_ℕ}
+use Rattle.std.specs.Hash as fed
 use Rattle.std.specs.declared.net.socket_addr.SocketAddrV4.{SocketAddrV4}
 use Rattle.someip_tables.specs.Endpoints.{endpoint_cmp, coded_endpoint}
+use Rattle.someip_tables.specs.hashed.EndpointNumbers.{endpoint_number}
 use Rattle.audit_traffic.specs.declared.events.flow.EventFlow.{EventFlow}
 use Rattle.audit_traffic.specs.declared.gaps.key.MissingEvent.{MissingEvent}
 
@@ -24,3 +26,7 @@ abbrev pub coded_missing : Coded MissingEvent
 coded_missing =
     code_by (SocketAddrV4 × (ℕ × (ℕ × ℕ))) (coded× coded_endpoint (coded× coded_ℕ (coded× coded_ℕ coded_ℕ)))
     (λ m. (m.sender, (m.service, (m.event, m.session)))) (λ c. record { sender = c.0; service = c.1.0; event = c.1.1.0; session = c.1.1.1 }) (λ _. refl)
+
+-- what is hashed of it
+abbrev pub missing_fed : MissingEvent → List (List ℕ)
+missing_fed m = fed.u64 (endpoint_number m.sender) ++ fed.u64 ((m.service * 65536 + m.event) * 65536 + m.session)

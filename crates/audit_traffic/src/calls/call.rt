@@ -17,7 +17,7 @@ use std::net::SocketAddrV4;
 ///
 /// Calls are ordered by Message ID and Request ID, then by the endpoints, and then by Interface Version.
 /// The four IDs stand here from the last to the first, so that on most machines they are read as one number.
-#[derive(Clone, Copy, Debug, PartialEq, Eq)]
+#[derive(Clone, Copy, Debug)]
 pub struct AuditedCall {
     /// Session ID, the second half of the Request ID.
     pub session: u16,
@@ -60,17 +60,38 @@ impl AuditedCall {
     }
 }
 
+/// By the order, which compares numbers: octet by octet takes longer.
+impl PartialEq for AuditedCall {
+    ghost use Rattle.std.specs.Ordering.{eq_by_cmp};
+    ghost use Rattle.std.specs.Cmp.{partial_equiv_from_equiv, eq_by_cmp_equiv};
+    ghost use Rattle.audit_traffic.specs.calls.AuditedCalls.{call_cmp};
+    ghost use Rattle.audit_traffic.specs.calls.CallOrder.{calls_total};
+
+    ghost eq = { eq_by_cmp call_cmp };
+
+    ghost laws = { partial_equiv_from_equiv (eq_by_cmp_equiv calls_total) };
+
+    fn eq(&self, other: &AuditedCall) -> bool {
+        self.cmp(other).is_eq()
+    }
+}
+
+impl Eq for AuditedCall {
+    ghost use Rattle.std.specs.Cmp.{eq_by_cmp_equiv};
+    ghost use Rattle.audit_traffic.specs.calls.CallOrder.{calls_total};
+
+    ghost laws = { eq_by_cmp_equiv calls_total };
+}
+
 impl PartialOrd for AuditedCall {
     ghost use Rattle.std.specs.Prelude.{Some, refl};
     ghost use Rattle.std.specs.Cmp.{partial_order_from_agreeing_total};
     ghost use Rattle.audit_traffic.specs.calls.AuditedCalls.{call_cmp};
     ghost use Rattle.audit_traffic.specs.calls.CallOrder.{calls_total};
-    ghost use Rattle.std.specs.Cmp.Rules.{comparing};
-    ghost use Rattle.std.proofs.Common.{rules};
 
     ghost partial_cmp = { λ x y. Some (call_cmp x y) };
 
-    ghost laws = { partial_order_from_agreeing_total call_cmp calls_total (λ x y. refl) (Prim.search (comparing, rules)) };
+    ghost laws = { partial_order_from_agreeing_total call_cmp calls_total (λ x y. refl) (λ x y. refl) };
 
     fn partial_cmp(&self, other: &AuditedCall) -> Option<Ordering> {
         Some(self.cmp(other))
@@ -111,16 +132,15 @@ impl Ord for AuditedCall {
 
 /// By all but the Interface Version, which tells hardly any calls apart.
 impl Hash for AuditedCall {
-    ghost use Rattle.std.specs.Prelude.{◌++◌};
-    ghost use Rattle.std.specs.Hash as fed;
-    ghost use Rattle.std.specs.Cmp.Rules.{comparing, hashing};
-    ghost use Rattle.std.proofs.Common.{rules};
-    ghost use Rattle.someip_tables.specs.hashed.EndpointNumbers.{endpoint_number};
-    ghost use Rattle.audit_traffic.specs.calls.CallNumbers.{ids_number};
+    ghost use Rattle.std.proofs.Common.{ap};
+    ghost use Rattle.someip_tables.proofs.DueLemmas.{test_is_true};
+    ghost use Rattle.someip_tables.proofs.Entries.{same_by_test};
+    ghost use Rattle.audit_traffic.specs.calls.CallNumbers.{call_fed};
+    ghost use Rattle.audit_traffic.specs.calls.CallOrder.{exact_calls};
 
-    ghost hash_input = { λ c. fed.u64 (ids_number c) ++ fed.u64 (endpoint_number c.from) ++ fed.u64 (endpoint_number c.to) };
+    ghost hash_input = { call_fed };
 
-    ghost respects_eq = { Prim.search (hashing, comparing, rules) };
+    ghost respects_eq = { λ x y same. ap call_fed (same_by_test exact_calls x y (test_is_true same)) };
 
     fn hash<H: Hasher>(&self, state: &mut H) {
         state.write_u64(number_of_ids(self));

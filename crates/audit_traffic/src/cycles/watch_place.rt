@@ -1,17 +1,21 @@
 //! Where the watch of a flow is found, by what may end it.
 ghost use Rattle.std.specs.Prelude.{◌≡◌, None, Some};
+ghost use Rattle.std.specs.Option.{option_cmp};
+ghost use Rattle.someip_tables.specs.Endpoints.{address_cmp};
 ghost use Rattle.audit_traffic.specs.cycles.PlaceOrder.{exact_places};
 ghost use Rattle.audit_traffic.specs.cycles.WatchPlaces.{at_address, at_service, at_subscription, is_at};
 ghost use Rattle.audit_traffic.specs.cycles.WatchPlaces.{receiver_place, sender_place, service_place};
 ghost use Rattle.audit_traffic.specs.cycles.WatchPlaces.{subscription_place};
 
 use crate::events::EventFlow;
+use audit_index::compare_addresses;
 use someip_tables::{Key, is_same_key};
+use std::cmp::Ordering;
 use std::net::Ipv4Addr;
 
 /// A place at which the watches of flows are found: an address from which or to which they go, a service at the
 /// address that they come from, or an address to which the events of such a service go.
-#[derive(Clone, Copy, Debug, PartialEq, Eq, PartialOrd, Ord)]
+#[derive(Clone, Copy, Debug)]
 pub(crate) struct WatchPlace {
     /// The address.
     pub(crate) address: Ipv4Addr,
@@ -23,6 +27,82 @@ pub(crate) struct WatchPlace {
 
 impl Key for WatchPlace {
     ghost exact = { exact_places };
+}
+
+impl PartialEq for WatchPlace {
+    ghost use Rattle.std.specs.Ordering.{eq_by_cmp};
+    ghost use Rattle.std.specs.Cmp.{partial_equiv_from_equiv, eq_by_cmp_equiv};
+    ghost use Rattle.audit_traffic.specs.cycles.WatchPlaces.{place_cmp};
+    ghost use Rattle.audit_traffic.specs.cycles.PlaceOrder.{places_total};
+
+    ghost eq = { eq_by_cmp place_cmp };
+
+    ghost laws = { partial_equiv_from_equiv (eq_by_cmp_equiv places_total) };
+
+    fn eq(&self, other: &WatchPlace) -> bool {
+        self.cmp(other).is_eq()
+    }
+}
+
+impl Eq for WatchPlace {
+    ghost use Rattle.std.specs.Cmp.{eq_by_cmp_equiv};
+    ghost use Rattle.audit_traffic.specs.cycles.PlaceOrder.{places_total};
+
+    ghost laws = { eq_by_cmp_equiv places_total };
+}
+
+impl PartialOrd for WatchPlace {
+    ghost use Rattle.std.specs.Prelude.{Some, refl};
+    ghost use Rattle.std.specs.Cmp.{partial_order_from_agreeing_total};
+    ghost use Rattle.audit_traffic.specs.cycles.WatchPlaces.{place_cmp};
+    ghost use Rattle.audit_traffic.specs.cycles.PlaceOrder.{places_total};
+
+    ghost partial_cmp = { λ x y. Some (place_cmp x y) };
+
+    ghost laws = { partial_order_from_agreeing_total place_cmp places_total (λ x y. refl) (λ x y. refl) };
+
+    fn partial_cmp(&self, other: &WatchPlace) -> Option<Ordering> {
+        Some(self.cmp(other))
+    }
+}
+
+/// The addresses are compared as numbers: octet by octet takes longer.
+impl Ord for WatchPlace {
+    ghost use Rattle.std.specs.Cmp.Rules.{comparing};
+    ghost use Rattle.std.proofs.Common.{rules};
+    ghost use Rattle.audit_traffic.specs.cycles.WatchPlaces.{place_cmp};
+    ghost use Rattle.audit_traffic.specs.cycles.PlaceOrder.{places_total};
+
+    ghost cmp = { place_cmp };
+
+    ghost total = { places_total };
+
+    ghost matches_partial_cmp = { Prim.search (comparing, rules) };
+
+    ghost matches_eq = { Prim.search (comparing, rules) };
+
+    fn cmp(&self, other: &WatchPlace) -> Ordering {
+        match compare_addresses(&self.address, &other.address) {
+            Ordering::Equal => {}
+            different => return different,
+        }
+        match self.service.cmp(&other.service) {
+            Ordering::Equal => compare_receivers(&self.receiver, &other.receiver),
+            different => different,
+        }
+    }
+}
+
+/// Two addresses that may be missing, in order: none comes first.
+fn compare_receivers(receiver: &Option<Ipv4Addr>, other: &Option<Ipv4Addr>) -> Ordering
+    ensures { result ≡ option_cmp address_cmp receiver.now other.now }
+{
+    match (receiver, other) {
+        (Some(receiver), Some(other)) => compare_addresses(receiver, other),
+        (Some(_), None) => Ordering::Greater,
+        (None, Some(_)) => Ordering::Less,
+        (None, None) => Ordering::Equal,
+    }
 }
 
 impl WatchPlace {

@@ -5,6 +5,7 @@ ghost use Rattle.audit_traffic.specs.segments.MessageKeys.{message_cmp, messages
 
 use someip_reassembly::ReassemblyKey;
 use someip_tables::Key;
+use someip_tables::hashed::compare_endpoints;
 use std::cmp::Ordering;
 use std::hash::{Hash, Hasher};
 
@@ -45,6 +46,7 @@ impl PartialOrd for MessageKey {
     }
 }
 
+/// The endpoints are compared as numbers: octet by octet takes longer.
 impl Ord for MessageKey {
     ghost use Rattle.std.specs.Cmp.Rules.{comparing};
     ghost use Rattle.std.proofs.Common.{rules};
@@ -58,12 +60,14 @@ impl Ord for MessageKey {
     ghost matches_eq = { Prim.search (comparing, rules) };
 
     fn cmp(&self, other: &MessageKey) -> Ordering {
-        let ends = self
-            .0
-            .source
-            .cmp(&other.0.source)
-            .then(self.0.destination.cmp(&other.0.destination));
-        ends.then(numbers(&self.0).cmp(&numbers(&other.0)))
+        match compare_endpoints(&self.0.source, &other.0.source) {
+            Ordering::Equal => {}
+            different => return different,
+        }
+        match compare_endpoints(&self.0.destination, &other.0.destination) {
+            Ordering::Equal => numbers(&self.0).cmp(&numbers(&other.0)),
+            different => different,
+        }
     }
 }
 

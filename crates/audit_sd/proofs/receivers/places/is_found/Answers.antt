@@ -1,4 +1,4 @@
-use Rattle.std.proofs.Common.{ap, sym, ◌∙◌}
+use Rattle.std.proofs.Common.{sym, ◌∙◌}
 use Rattle.someip_tables.specs.Tables.{map_of}
 use Rattle.audit_index.specs.Slots.{stands}
 use Rattle.audit_index.proofs.PlaceLemmas.{at_left}

@@ -3,8 +3,9 @@ use Rattle.std.specs.BTreeMap.{btree_map_len}
 use Rattle.someip_tables.specs.Tables.{map_of}
 use Rattle.someip_tables.proofs.Trees.{map_of-remove}
 use Rattle.audit_sd.specs.sessions.SessionBooks.{pair_cmp}
+use Rattle.audit_sd.specs.sessions.PairOrder.{pairs_total, exact_pairs}
 use Rattle.audit_sd.proofs.about_sessions.OtherLemmas.{less_itself, less_removed}
-use Rattle.audit_sd.proofs.about_sessions.PairLemmas.{exact_pairs, known_is, pairs_total}
+use Rattle.audit_sd.proofs.about_sessions.PairLemmas.{known_is}
 use Rattle.audit_sd.proofs.sessions.others.forget_after.Goals as goal
 
 pub loop-pair-init : goal.loop-pair-init

@@ -1,4 +1,8 @@
-use Rattle.std.proofs.Common.{◌≡◌, true, false}
+use Rattle.std.proofs.Common.{sym, ap, ◌∙◌}
+use Rattle.std.specs.Ordering.{eq_by_cmp}
+use Rattle.someip_tables.specs.Endpoints.{address_cmp}
+use Rattle.someip_tables.specs.EndpointOrder.{addresses_total, exact_addresses}
+use Rattle.someip_tables.proofs.Entries.{own_test, same_by_test}
 use Rattle.audit_sd.proofs.about_sessions.OtherLemmas.{before_held, before_other, none_before, none_there_before}
 use Rattle.audit_sd.proofs.sessions.others.next_before.Goals as goal
 
@@ -6,15 +10,16 @@ pub returns-in_err-pair-clause-none : goal.returns-in_err-pair-clause-none
 returns-in_err-pair-clause-none c =
     rw c.from_residual.ensures (none_before c.args.sender c.args.destination c.args.last.now c.range.result (c.range.ensures.in_range tt) c.in_err-pair.ensures.steps.0)
 
-pub returns-then-is_same_key-clause-other : goal.returns-then-is_same_key-clause-other
-returns-then-is_same_key-clause-other c =
-    before_other c.args.sender c.args.destination c.args.last.now c.range.result (c.range.ensures.in_range tt) _ _ c.in_ok-pair.ensures.steps (c.is_same_key.ensures.same.0 c.if-is_same_key.true)
+pub returns-then-is_from-clause-other : goal.returns-then-is_from-clause-other
+returns-then-is_from-clause-other c =
+    before_other c.args.sender c.args.destination c.args.last.now c.range.result (c.range.ensures.in_range tt) _ _ c.in_ok-pair.ensures.steps
+    (same_by_test exact_addresses _ _ (sym c.is_from.ensures ∙ c.if-is_from.true))
 
-pub returns-then-is_same_key-clause-held : goal.returns-then-is_same_key-clause-held
-returns-then-is_same_key-clause-held c =
+pub returns-then-is_from-clause-held : goal.returns-then-is_from-clause-held
+returns-then-is_from-clause-held c =
     before_held c.args.sender c.args.destination c.args.last.now c.range.result (c.range.ensures.in_range tt) _ _ c.in_ok-pair.ensures.steps
 
-pub returns-else-is_same_key-clause-none : goal.returns-else-is_same_key-clause-none
-returns-else-is_same_key-clause-none c =
+pub returns-else-is_from-clause-none : goal.returns-else-is_from-clause-none
+returns-else-is_from-clause-none c =
     none_there_before c.args.sender c.args.destination c.args.last.now c.range.result (c.range.ensures.in_range tt) _ _ c.in_ok-pair.ensures.steps
-    (λ is. let yes = c.is_same_key.ensures.same.1 is in let no = c.if-is_same_key.false in cc)
+    (λ is. let yes = ap (λ a. eq_by_cmp address_cmp a c.args.sender) is ∙ own_test addresses_total c.args.sender in let no = sym c.is_from.ensures ∙ c.if-is_from.false in cc)

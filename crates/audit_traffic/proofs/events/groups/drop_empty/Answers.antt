@@ -1,4 +1,3 @@
-use Rattle.std.proofs.Common.{sym, ◌∙◌}
 use Rattle.audit_traffic.proofs.about_events.ForgottenFlow.{dropped_after, dropped_flows}
 use Rattle.audit_traffic.proofs.events.groups.drop_empty.Goals as goal
 

@@ -1,5 +1,4 @@
 use Rattle.audit_index.proofs.PlaceLemmas.{put_there, stays_there}
-use Rattle.audit_traffic.specs.events.FlowKeys.{flow_cmp}
 use Rattle.audit_traffic.specs.events.FlowOrder.{flows_total, exact_flows}
 use Rattle.audit_traffic.proofs.events.steady.put_at.Goals as goal
 

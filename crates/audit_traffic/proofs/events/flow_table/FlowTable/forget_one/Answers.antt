@@ -1,4 +1,4 @@
-use Rattle.std.proofs.Common.{◌≡◌, ◌-◌, ◌≤◌, length, ap, arith, sym, ◌∙◌}
+use Rattle.std.proofs.Common.{◌-◌, ◌≤◌, length, ap, arith, sym, ◌∙◌}
 use Rattle.audit_traffic.specs.events.FlowGroups.{flows_in}
 use Rattle.audit_traffic.proofs.about_events.ForgottenFlow.{len_fewer, len_same, some_there}
 use Rattle.audit_traffic.proofs.events.flow_table.FlowTable.forget_one.Goals as goal

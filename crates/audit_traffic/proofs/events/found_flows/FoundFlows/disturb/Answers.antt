@@ -4,7 +4,7 @@ use Rattle.someip_tables.specs.Tables.{map_of}
 use Rattle.audit_index.specs.Slots.{stands}
 use Rattle.audit_traffic.specs.events.FlowKeys.{flow_cmp}
 use Rattle.audit_traffic.specs.events.FlowPlaces.{all_groups, offering_cmp, offering_of, once_disturbed_at, receiver_of, route_cmp, route_of, sender_of}
-use Rattle.audit_traffic.specs.events.PlaceOrder.{offerings, routes}
+use Rattle.audit_traffic.specs.events.PlaceOrder.{offerings}
 use Rattle.someip_tables.specs.Changed.{each_changed}
 use Rattle.audit_traffic.proofs.about_events.EndLemmas.{known_changed}
 use Rattle.audit_traffic.proofs.about_events.SteadyLemmas.{changed_is, found_changed, steady_before}

@@ -1,4 +1,3 @@
-use Rattle.std.proofs.Common.{refl}
 use Rattle.someip_tables.specs.Endpoints.{address_cmp}
 use Rattle.someip_tables.specs.Tables.{map_of}
 use Rattle.audit_index.specs.Slots.{stands}

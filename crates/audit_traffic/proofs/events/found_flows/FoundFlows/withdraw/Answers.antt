@@ -3,8 +3,8 @@ use Rattle.someip_tables.specs.Endpoints.{address_cmp}
 use Rattle.someip_tables.specs.Tables.{map_of}
 use Rattle.audit_index.specs.Slots.{stands}
 use Rattle.audit_traffic.specs.events.FlowKeys.{flow_cmp}
-use Rattle.audit_traffic.specs.events.FlowPlaces.{offering_cmp, offering_of, receiver_of, route_cmp, route_of, sender_of}
-use Rattle.audit_traffic.specs.events.PlaceOrder.{offerings, routes}
+use Rattle.audit_traffic.specs.events.FlowPlaces.{receiver_of, route_cmp, route_of, sender_of}
+use Rattle.audit_traffic.specs.events.PlaceOrder.{routes}
 use Rattle.audit_traffic.proofs.about_events.EndLemmas.{known_changed}
 use Rattle.audit_traffic.proofs.about_events.SteadyLemmas.{found_changed, steady_before, withdrawn_is}
 use Rattle.audit_traffic.proofs.events.found_flows.FoundFlows.withdraw.Goals as goal

@@ -1,9 +1,5 @@
-use Rattle.std.proofs.Common.{◌≡◌, true, false, sym, ap, ◌∙◌}
+use Rattle.std.proofs.Common.{sym, ap, ◌∙◌}
 use Rattle.std.specs.Option.{is_some}
-use Rattle.someip_tables.specs.Tables.{map_of}
-use Rattle.someip_tables.specs.hashed.Rooms.{may_hold}
-use Rattle.audit_traffic.specs.ways.WayKeys.{way_cmp}
-use Rattle.audit_traffic.specs.ways.WayTables.{number_of, one_more}
 use Rattle.audit_traffic.proofs.about_ways.WayLemmas.{len_is, may_is}
 use Rattle.audit_traffic.proofs.ways.way_book.WayBook.saw.Goals as goal
 
