@@ -1,6 +1,7 @@
--- What a change of an ordered map makes of the map that it shows.
-use Rattle.std.proofs.Common.{◌≡◌, ℕ, nat_lt, Bool, true, false, cond, ◌||◌, None, Some, Result, Ok, Err, refl, ap, sym, ◌∙◌}
-use Rattle.std.specs.Prelude.{OnOk, OnErr}
+-- What a change of a map makes of the finite map that it shows.
+use Rattle.std.proofs.Common.{◌≡◌, ℕ, ◌<◌, ◌≤◌, nat_lt, Bool, true, false, cond, ◌||◌, None, Some, Result, Ok, Err, refl, ap, sym, ◌∙◌, arith}
+use Rattle.std.specs.Prelude.{IfOk, OnOk, OnErr}
+use Rattle.std.proofs.lemmas.Bool.Decides.{nat_tests}
 use Rattle.std.specs.declared.cmp.Ordering.{Ordering}
 use Rattle.std.specs.Ordering.{eq_by_cmp}
 use Rattle.std.specs.Cmp.{IsTotalOrder}
@@ -16,9 +17,31 @@ pub on_err_from : {T E P Q : Type 0} (r : Result T E) → (P → Q) → OnErr r 
 on_err_from (Ok x) f p = tt
 on_err_from (Err e) f p = f p
 
--- whether a key has room, by what was found
-pub room_is : (may held has : Bool) (count len limit : ℕ) → may ≡ (held || nat_lt count limit) → held ≡ has → count ≡ len → may ≡ (has || nat_lt len limit)
-room_is may held has count len limit is has_is len_is = is ∙ (λ i. has_is i || nat_lt (len_is i) limit)
+pub if_ok_from : {T E : Type 0} {P Q : T → Type 0} (r : Result T E) → ((x : T) → P x → Q x) → IfOk r P → IfOk r Q
+if_ok_from (Ok x) f p = f x p
+if_ok_from (Err e) f p = tt
+
+below : (count limit : ℕ) → count < limit → nat_lt count limit ≡ true
+below count limit lt = grind (arith, nat_tests)
+
+not_below : (count limit : ℕ) → limit ≤ count → nat_lt count limit ≡ false
+not_below count limit le = grind (arith, nat_tests)
+
+-- there is room for one more key, or there is not
+pub one_more : (count len limit : ℕ) → count < limit → count ≡ len → nat_lt len limit ≡ true
+one_more count len limit lt is = ap (λ n. nat_lt n limit) (sym is) ∙ below count limit lt
+
+pub no_more : (count len limit : ℕ) → limit ≤ count → count ≡ len → nat_lt len limit ≡ false
+no_more count len limit le is = ap (λ n. nat_lt n limit) (sym is) ∙ not_below count limit le
+
+-- whether a key has room: there is some for one more, or it was looked for
+pub room_left : (has : Bool) (count len limit : ℕ) → count < limit → count ≡ len → nat_lt count limit ≡ (has || nat_lt len limit)
+room_left true count len limit lt is = below count limit lt
+room_left false count len limit lt is = ap (λ n. nat_lt n limit) is
+
+pub room_by_key : (held has : Bool) (count len limit : ℕ) → limit ≤ count → held ≡ has → count ≡ len → held ≡ (has || nat_lt len limit)
+room_by_key held true count len limit le has_is is = has_is
+room_by_key held false count len limit le has_is is = has_is ∙ sym (no_more count len limit le is)
 
 module _ {K V : Type 0} {R : K → K → Ordering} (o : IsTotalOrder R) (exact : IsAntisymmetric R) where
   -- what a key has already changes nothing

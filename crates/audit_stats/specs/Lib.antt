@@ -2,6 +2,7 @@ pub mod Spreads
 pub mod Ranks
 pub mod Keys
 pub mod KeyOrder
+pub mod KeyNumbers
 pub mod Tables
 pub mod Changes
 pub mod Sights

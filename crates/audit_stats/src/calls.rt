@@ -7,20 +7,18 @@ ghost use Rattle.audit_stats.specs.declared.full.Full.TheVariants as full;
 ghost use Rattle.audit_stats.specs.declared.methods.CallChange.TheVariants as of_call;
 ghost use Rattle.audit_stats.specs.Keys.{call_cmp, flow_cmp};
 ghost use Rattle.audit_stats.specs.Stats.{Waiting, answered_takes, called_takes, methods_answered, methods_called, told_of_called, waiting_answered, waiting_called};
-ghost use Rattle.audit_stats.specs.Tables.{counted, held_by, told_of, with_held};
+ghost use Rattle.audit_stats.specs.Tables.{counted, has_room, held_by, told_of, with_held};
 
 use crate::events::time_since;
 use crate::full::Full;
 use crate::keys::{Call, Flow};
 use crate::methods::{CallChange, MethodFigures};
 use crate::table::Table;
+use crate::wait_table::WaitTable;
 use std::alloc::AllocError;
 
 /// The figures of methods.
 pub(crate) type MethodTable = Table<Flow, MethodFigures>;
-
-/// Since when calls wait for their answers, in microseconds.
-pub(crate) type WaitTable = Table<Call, u64>;
 
 /// A call came, which wants an answer or not.
 pub(crate) fn called(
@@ -41,12 +39,11 @@ pub(crate) fn called(
     ensures grows { OnErr result
         (called_takes call asks (held_by flow_cmp methods.old) (held_by call_cmp waiting.old) ≡ true) }
 {
+    if !asks {
+        return methods.came(call.flow, CallChange::Called(false), Full::Methods);
+    }
     if !methods.has_room(&call.flow) {
         return Ok(methods.tell_full(Full::Methods));
-    }
-    if !asks {
-        methods.count(call.flow, CallChange::Called(false))?;
-        return Ok(None);
     }
     if !waiting.has_room(&call) {
         methods.count(call.flow, CallChange::Called(false))?;
@@ -56,13 +53,14 @@ pub(crate) fn called(
     Ok(None)
 }
 
-/// A call came that is waited for.
+/// A call came that is waited for, and its method has room.
 fn open(
     methods: &mut MethodTable,
     waiting: &mut WaitTable,
     now: u64,
     call: Call,
 ) -> Result<(), AllocError>
+    requires { has_room call.flow (held_by flow_cmp methods.old) ≡ true }
     ensures methods { OnOk result (held_by flow_cmp methods.new
         ≡ counted no_calls after_call call.flow (of_call.Called true) (held_by flow_cmp methods.old)) }
     ensures waiting { OnOk result (held_by call_cmp waiting.new ≡ with_held call now (held_by call_cmp waiting.old)) }
@@ -71,10 +69,9 @@ fn open(
     ensures grows { OnErr result ((is_none (finite.get (held_by flow_cmp methods.old).values call.flow)
         || is_none (finite.get (held_by call_cmp waiting.old).values call)) ≡ true) }
 {
-    let before = waiting.get(call);
-    waiting.put(call, now)?;
+    let before = waiting.put(call, now)?;
     match methods.count(call.flow, CallChange::Called(true)) {
-        Ok(()) => Ok(()),
+        Ok(_) => Ok(()),
         Err(_) => {
             take_back(waiting, call, before);
             Err(AllocError)
@@ -113,11 +110,10 @@ pub(crate) fn answered(
     ensures grows { OnErr result
         (answered_takes now call fails (held_by flow_cmp methods.old) (held_by call_cmp waiting.old) ≡ true) }
 {
-    if !methods.has_room(&call.flow) {
+    let latency = time_since(now, waiting.get(&call));
+    if !methods.count(call.flow, CallChange::Answered(fails, latency))? {
         return Ok(methods.tell_full(Full::Methods));
     }
-    let latency = time_since(now, waiting.get(call));
-    methods.count(call.flow, CallChange::Answered(fails, latency))?;
     waiting.remove(&call);
     Ok(None)
 }

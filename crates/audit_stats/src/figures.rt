@@ -10,7 +10,7 @@ ghost use Rattle.audit_stats.specs.declared.keys.Way.{Way};
 ghost use Rattle.audit_stats.specs.declared.methods.MethodFigures.{MethodFigures};
 ghost use Rattle.audit_stats.specs.Stats.{BeganAgain, Came, Discovered, Lost, after_fact, fact_takes, has_told, no_stats, told_of_fact};
 
-use crate::calls::{MethodTable, WaitTable, answered, called};
+use crate::calls::{MethodTable, answered, called};
 use crate::discovery::{DiscoveryChange, DiscoveryFigures};
 use crate::events::{EventChange, EventFigures};
 use crate::full::{FigureLimits, Full};
@@ -18,6 +18,7 @@ use crate::keys::{Flow, Way};
 use crate::methods::MethodFigures;
 use crate::sight::{Sight, sight_of};
 use crate::table::Table;
+use crate::wait_table::WaitTable;
 use someip_wire::Message;
 use std::alloc::{AllocError, Global};
 use std::collections::btree_map;
@@ -59,7 +60,7 @@ impl Figures {
             methods: Table::new(alloc, limits.keys),
             events: Table::new(alloc, limits.keys),
             discovery: Table::new(alloc, limits.keys),
-            waiting: Table::new(alloc, limits.calls),
+            waiting: WaitTable::new(alloc, limits.calls),
         }
     }
 

@@ -1,11 +1,11 @@
 //! How values spread.
-ghost use Rattle.std.specs.Prelude.{◌≡◌, ◌≤◌, ◌<◌, ◌^◌, OnErr, OnOk, true, min};
+ghost use Rattle.std.specs.Prelude.{◌≡◌, ◌≤◌, ◌<◌, ◌^◌, None, OnErr, OnOk, true, min};
 ghost use Rattle.std.specs.FinMap as finite;
 ghost use Rattle.std.specs.Ordering.{nat_cmp};
 ghost use Rattle.someip_tables.specs.Tables.{map_of};
-ghost use Rattle.audit_stats.specs.Spreads.{bucket_at, is_first_in_bucket, low_end, no_values, number_of, quantile, rank_of, summary_of, with_value};
+ghost use Rattle.audit_stats.specs.Spreads.{bucket_at, is_first_in_bucket, low_end, no_values, number_of, quantile, raised, rank_of, summary_of, with_value};
 
-use someip_tables::{put_value, value_at};
+use someip_tables::put_value;
 use std::alloc::{AllocError, Global};
 use std::collections::BTreeMap;
 use std::marker::Model;
@@ -75,9 +75,7 @@ impl Spread {
         ensures err { OnErr result (self.new ≡ self.old) }
         ensures grows { OnErr result (is_first_in_bucket value self.old ≡ true) }
     {
-        let bucket = low_end(value);
-        let number = number_of(value_at(&self.buckets, bucket));
-        put_value(&mut self.buckets, bucket, number.saturating_add(1))?;
+        raise(&mut self.buckets, low_end(value))?;
         self.count = self.count.saturating_add(1);
         self.least = self.least.min(value);
         self.greatest = self.greatest.max(value);
@@ -128,11 +126,21 @@ fn low_end(value: u64) -> u64
     rest * width
 }
 
-/// How many lie in a bucket.
-fn number_of(kept: Option<u64>) -> u64
-    ensures { result ≡ number_of kept }
+/// One more value lies in a bucket.
+fn raise(buckets: &mut BTreeMap<u64, u64>, bucket: u64) -> Result<(), AllocError>
+    ensures ok { OnOk result (map_of nat_cmp buckets.new.entries
+        ≡ finite.insert (map_of nat_cmp buckets.old.entries) bucket
+        (raised (number_of (finite.get (map_of nat_cmp buckets.old.entries) bucket)) 1)) }
+    ensures err { OnErr result (map_of nat_cmp buckets.new.entries ≡ map_of nat_cmp buckets.old.entries) }
+    ensures grows { OnErr result (finite.get (map_of nat_cmp buckets.old.entries) bucket ≡ None) }
 {
-    kept.unwrap_or(0)
+    match buckets.get_mut(&bucket) {
+        Some(number) => {
+            *number = number.saturating_add(1);
+            Ok(())
+        }
+        None => put_value(buckets, bucket, 1),
+    }
 }
 
 /// The rank of a quantile of so many values, in percent.

@@ -1,15 +1,15 @@
 //! Tables with a limit.
-ghost use Rattle.std.specs.Prelude.{◌≡◌, IfOk, None, OnErr, OnOk, Some, is_some, true, false, ◌||◌, nat_lt};
+ghost use Rattle.std.specs.Prelude.{◌≡◌, IfOk, OnErr, OnOk, is_some, true, ◌&&◌, ◌||◌, nat_lt, if◌then◌else◌};
 ghost use Rattle.std.specs.FinMap as finite;
 ghost use Rattle.std.specs.Map.Iter.{ShowsInOrder, deref_pair};
 ghost use Rattle.std.specs.Option.{unwrap_or};
 ghost use Rattle.someip_tables.specs.Tables.{map_of};
-ghost use Rattle.someip_tables.specs.hashed.Rooms.{told_when_full};
-ghost use Rattle.audit_stats.specs.Tables.{after_change, after_takes, change_takes, counted, empty_held, full_told, has_room, held_by, told_of, with_held, without_held};
+ghost use Rattle.someip_tables.specs.hashed.Rooms.{may_hold, told_when_full};
+ghost use Rattle.audit_stats.specs.Tables.{after_change, after_takes, change_takes, counted, empty_held, full_told, has_room, held_by, told_of};
 
 use crate::counts::Counts;
+use someip_tables::Key;
 use someip_tables::hashed::Room;
-use someip_tables::{Key, put_value, value_at};
 use std::alloc::{AllocError, Global};
 use std::collections::{BTreeMap, btree_map};
 use std::marker::Model;
@@ -46,7 +46,8 @@ impl<K: Key, V: Drop> Table<K, V> {
         }
     }
 
-    /// Whether a key has room: it is held, or fewer are than may be.
+    /// Whether a key has room: it is held, or fewer are than may be. It is looked for where there is no room for one
+    /// more.
     pub(crate) fn has_room(&self, key: &K) -> bool
         ensures { result ≡ has_room key.now (held_by K.cmp self.now) }
     {
@@ -68,17 +69,18 @@ impl<K: Key, V: Drop> Table<K, V> {
         self.room.told_full
     }
 
-    /// Counts a change under a key, whether or not it has room.
-    pub(crate) fn count<C: Copy>(&mut self, key: K, change: C) -> Result<(), AllocError>
+    /// Counts a change under a key, if there is room for it, and tells whether there is. What is refused for want of
+    /// memory leaves the table as it was.
+    pub(crate) fn count<C: Copy>(&mut self, key: K, change: C) -> Result<bool, AllocError>
     where
         V: Counts<C>,
-        ensures ok { OnOk result (held_by K.cmp self.new
-            ≡ counted V.none V.after key change (held_by K.cmp self.old)) }
+        ensures room { IfOk result (λ room. room ≡ has_room key (held_by K.cmp self.old)) }
+        ensures ok { IfOk result (λ room. held_by K.cmp self.new ≡ (if room
+            then counted V.none V.after key change (held_by K.cmp self.old) else held_by K.cmp self.old)) }
         ensures err { OnErr result (held_by K.cmp self.new ≡ held_by K.cmp self.old) }
-        ensures grows { OnErr result
-            (change_takes V.takes change (finite.get (held_by K.cmp self.old).values key) ≡ true) }
+        ensures grows { OnErr result (after_takes V.takes key change (held_by K.cmp self.old) ≡ true) }
     {
-        count(&mut self.held, self.alloc, key, change)
+        count(&mut self.held, self.room.limit, self.alloc, key, change)
     }
 
     /// Counts a change under a key, if there is room for it, and else tells once that the table is full. What is
@@ -97,11 +99,10 @@ impl<K: Key, V: Drop> Table<K, V> {
         ensures err { OnErr result (held_by K.cmp self.new ≡ held_by K.cmp self.old) }
         ensures grows { OnErr result (after_takes V.takes key change (held_by K.cmp self.old) ≡ true) }
     {
-        if !self.has_room(&key) {
-            return Ok(self.tell_full(full));
+        if self.count(key, change)? {
+            return Ok(None);
         }
-        self.count(key, change)?;
-        Ok(None)
+        Ok(self.tell_full(full))
     }
 
     /// What is held, by rising key.
@@ -113,79 +114,61 @@ impl<K: Key, V: Drop> Table<K, V> {
     }
 }
 
-impl<K: Key, V: Copy + Drop> Table<K, V> {
-    /// The value that is held under a key.
-    pub(crate) fn get(&self, key: K) -> Option<V>
-        ensures { result ≡ finite.get (held_by K.cmp self.now).values key }
-    {
-        value_at(&self.held, key)
-    }
-
-    /// Holds a value under a key, in place of an earlier one. Memory is taken for a new key alone, and where it is
-    /// refused nothing changes.
-    pub(crate) fn put(&mut self, key: K, value: V) -> Result<(), AllocError>
-        ensures ok { OnOk result (held_by K.cmp self.new ≡ with_held key value (held_by K.cmp self.old)) }
-        ensures err { OnErr result (held_by K.cmp self.new ≡ held_by K.cmp self.old) }
-        ensures grows { OnErr result (finite.get (held_by K.cmp self.old).values key ≡ None) }
-    {
-        put_value(&mut self.held, key, value)
-    }
-
-    /// Holds nothing under a key. It takes no memory.
-    pub(crate) fn remove(&mut self, key: &K)
-        ensures { held_by K.cmp self.new ≡ without_held key.now (held_by K.cmp self.old) }
-    {
-        take_out(&mut self.held, key);
-    }
-}
-
 /// Whether a key has room: it is held, or fewer are than may be.
 fn has_room<K: Key, V: Drop>(room: &Room, held: &BTreeMap<K, V>, key: &K) -> bool
     ensures { result ≡ (is_some (finite.get (map_of K.cmp held.now.entries) key.now)
         || nat_lt (finite.len (map_of K.cmp held.now.entries)) room.now.limit) }
 {
-    room.may_hold(held.contains_key(key), held.len())
+    held.len() < room.limit || held.contains_key(key)
 }
 
-/// Takes a key out.
-fn take_out<K: Key, V: Drop>(held: &mut BTreeMap<K, V>, key: &K)
-    ensures { map_of K.cmp held.new.entries ≡ finite.remove (map_of K.cmp held.old.entries) key.now }
-{
-    held.remove(key);
-}
-
-/// Counts a change under a key.
+/// Counts a change under a key, if there is room for it, and tells whether there is. Only where the key is new the
+/// room is looked at.
 fn count<K: Key, C: Copy, V: Counts<C>>(
     held: &mut BTreeMap<K, V>,
+    limit: usize,
     alloc: Global,
     key: K,
     change: C,
-) -> Result<(), AllocError>
-    ensures ok { OnOk result (map_of K.cmp held.new.entries ≡ finite.insert (map_of K.cmp held.old.entries) key
-        (V.after change (unwrap_or (finite.get (map_of K.cmp held.old.entries) key) V.none))) }
+) -> Result<bool, AllocError>
+    ensures room { IfOk result (λ room. room ≡ may_hold limit (map_of K.cmp held.old.entries) key) }
+    ensures ok { IfOk result (λ room. map_of K.cmp held.new.entries
+        ≡ (if room then finite.insert (map_of K.cmp held.old.entries) key
+        (V.after change (unwrap_or (finite.get (map_of K.cmp held.old.entries) key) V.none))
+        else map_of K.cmp held.old.entries)) }
     ensures err { OnErr result (map_of K.cmp held.new.entries ≡ map_of K.cmp held.old.entries) }
-    ensures grows { OnErr result
-        (change_takes V.takes change (finite.get (map_of K.cmp held.old.entries) key) ≡ true) }
+    ensures grows { OnErr result ((may_hold limit (map_of K.cmp held.old.entries) key
+        && change_takes V.takes change (finite.get (map_of K.cmp held.old.entries) key)) ≡ true) }
 {
     match held.get_mut(&key) {
-        Some(value) => value.count(change),
-        None => begin(held, alloc, key, change),
+        Some(value) => match value.count(change) {
+            Ok(()) => Ok(true),
+            Err(_) => Err(AllocError),
+        },
+        None => begin(held, limit, alloc, key, change),
     }
 }
 
-/// Counts the first change under a key.
+/// Counts the first change under a key, if there is room for one more, and tells whether there is.
 fn begin<K: Key, C: Copy, V: Counts<C>>(
     held: &mut BTreeMap<K, V>,
+    limit: usize,
     alloc: Global,
     key: K,
     change: C,
-) -> Result<(), AllocError>
-    ensures ok { OnOk result (map_of K.cmp held.new.entries
-        ≡ finite.insert (map_of K.cmp held.old.entries) key (V.after change V.none)) }
+) -> Result<bool, AllocError>
+    ensures room { IfOk result (λ room. room ≡ nat_lt (finite.len (map_of K.cmp held.old.entries)) limit) }
+    ensures ok { IfOk result (λ room. map_of K.cmp held.new.entries
+        ≡ (if room then finite.insert (map_of K.cmp held.old.entries) key (V.after change V.none)
+        else map_of K.cmp held.old.entries)) }
     ensures err { OnErr result (map_of K.cmp held.new.entries ≡ map_of K.cmp held.old.entries) }
+    ensures grows { OnErr result (nat_lt (finite.len (map_of K.cmp held.old.entries)) limit ≡ true) }
 {
+    if held.len() >= limit {
+        return Ok(false);
+    }
     let mut value = V::none(alloc);
     value.count(change)?;
     held.insert(key, value)?;
-    Ok(())
+    Ok(true)
 }

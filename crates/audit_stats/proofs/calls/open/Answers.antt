@@ -3,4 +3,4 @@ use Rattle.audit_stats.specs.Tables.{held_by}
 use Rattle.audit_stats.proofs.calls.open.Goals as goal
 
 pub returns-in-Err-clause-err_waiting : goal.returns-in-Err-clause-err_waiting
-returns-in-Err-clause-err_waiting c = c.take_back.ensures (held_by call_cmp c.args.waiting.now) c.args.now c.get-before.ensures c.in_ok-put.ensures.ok
+returns-in-Err-clause-err_waiting c = c.take_back.ensures (held_by call_cmp c.args.waiting.now) c.args.now c.in_ok-before.ensures.before c.in_ok-before.ensures.ok
