@@ -11,3 +11,5 @@ pub mod CycleStepLemmas
 pub mod AskedLemmas
 pub mod RunLemmas
 pub mod StandingLemmas
+pub mod LossLemmas
+pub mod LossDueLemmas

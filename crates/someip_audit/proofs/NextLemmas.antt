@@ -5,7 +5,7 @@ use Rattle.std.specs.declared.cmp.Ordering.TheVariants.{Less, Equal, Greater}
 use Rattle.std.specs.Ordering.{is_le, nat_cmp, ordering_reverse, ordering_then}
 use Rattle.std.specs.Cmp.{IsTotalOrder}
 use Rattle.std.specs.FinMap as finite
-use Rattle.std.specs.FinMap.{IsAntisymmetric}
+use Rattle.std.specs.FinMap.{FinMap, IsAntisymmetric}
 use Rattle.std.proofs.lemmas.Bool.Decides.{nat_tests}
 use Rattle.audit_traffic.specs.declared.calls.finding.Unanswered.{Unanswered}
 use Rattle.audit_traffic.specs.calls.CallOrder.{calls_total, exact_calls}
@@ -13,6 +13,8 @@ use Rattle.audit_traffic.specs.calls.Overdue.{IsOpenCall, unanswered}
 use Rattle.audit_traffic.specs.declared.segments.told.Missing.{Missing}
 use Rattle.audit_traffic.specs.segments.MessageKeys.{exact_messages, message_key, messages_total}
 use Rattle.audit_traffic.specs.segments.SegmentBooks.{IsWaiting}
+use Rattle.audit_traffic.specs.segments.SegmentWaits.{WaitTable}
+use Rattle.audit_traffic.specs.gaps.MissingKeys.{missing_cmp}
 use Rattle.audit_traffic.specs.declared.segments.key.MessageKey.{MessageKey}
 use Rattle.audit_traffic.specs.declared.segments.waiting.Waiting.{Waiting}
 use Rattle.someip_reassembly.specs.declared.key.ReassemblyKey.{ReassemblyKey}
@@ -65,7 +67,7 @@ tied Less Greater turned p q = cc
 tied Equal q turned p le = refl
 tied Greater q turned p le = cc
 
-one_key : {K : Type 0} {R : K → K → Ordering} → IsTotalOrder R → IsAntisymmetric R → (a b : K) → is_le (R a b) ≡ true → is_le (R b a) ≡ true → a ≡ b
+pub one_key : {K : Type 0} {R : K → K → Ordering} → IsTotalOrder R → IsAntisymmetric R → (a b : K) → is_le (R a b) ≡ true → is_le (R b a) ≡ true → a ≡ b
 one_key {K} {R} o exact a b ab ba = exact a b (tied (R a b) (R b a) (o.antisymm a b) ab ba)
 
 -- a map has one value for a key
@@ -83,13 +85,13 @@ same_deadline a b ab ba =
 by_book : (a b : FellDue) → is_le (fell_cmp a b) ≡ true → is_le (fell_cmp b a) ≡ true → is_le (ordering_then (nat_cmp (book_of a) (book_of b)) (key_cmp a b)) ≡ true
 by_book a b ab ba = then_order (deadline a) (deadline b) (ordering_then (nat_cmp (book_of a) (book_of b)) (key_cmp a b)) (same_deadline a b ab ba) ab
 
-same_book : (a b : FellDue) → is_le (fell_cmp a b) ≡ true → is_le (fell_cmp b a) ≡ true → book_of a ≡ book_of b
+pub same_book : (a b : FellDue) → is_le (fell_cmp a b) ≡ true → is_le (fell_cmp b a) ≡ true → book_of a ≡ book_of b
 same_book a b ab ba =
     let one = in_order (book_of a) (book_of b) (key_cmp a b) (by_book a b ab ba) in
     let other = in_order (book_of b) (book_of a) (key_cmp b a) (by_book b a ba ab) in
     omega (arith, one, other)
 
-by_key : (a b : FellDue) → is_le (fell_cmp a b) ≡ true → is_le (fell_cmp b a) ≡ true → is_le (key_cmp a b) ≡ true
+pub by_key : (a b : FellDue) → is_le (fell_cmp a b) ≡ true → is_le (fell_cmp b a) ≡ true → is_le (key_cmp a b) ≡ true
 by_key a b ab ba = then_order (book_of a) (book_of b) (key_cmp a b) (same_book a b ab ba) (by_book a b ab ba)
 
 open_one : (held : Held) (a b : Unanswered) → IsOpenCall held.calls.calls a → IsOpenCall held.calls.calls b → a.call ≡ b.call → a ≡ b
@@ -103,10 +105,10 @@ missing_of key waiting = record { key = key; numbers = waiting.numbers; until = 
 waiting_of : Missing → Waiting
 waiting_of missing = record { numbers = missing.numbers; until = missing.until }
 
-missing_one : (held : Held) (a b : Missing) → IsWaiting held.segments.waiting a → IsWaiting held.segments.waiting b → message_key a.key ≡ message_key b.key → a ≡ b
+pub missing_one : (waiting : WaitTable) (a b : Missing) → IsWaiting waiting a → IsWaiting waiting b → message_key a.key ≡ message_key b.key → a ≡ b
 unfolding missing_of waiting_of
-missing_one held a b x y key =
-    let waits : waiting_of a ≡ waiting_of b = one_value (waiting_of a) (waiting_of b) (finite.get held.segments.waiting (message_key b.key)) (sym (ap (finite.get held.segments.waiting) key) ∙ x) y in
+missing_one waiting a b x y key =
+    let waits : waiting_of a ≡ waiting_of b = one_value (waiting_of a) (waiting_of b) (finite.get waiting (message_key b.key)) (sym (ap (finite.get waiting) key) ∙ x) y in
     ap (λ (k : MessageKey). missing_of k.0 (waiting_of a)) key ∙ ap (missing_of b.key) waits
 
 expired_one : (held : Held) (a b : Expired) → IsAwaited held (due.Expired a) → IsAwaited held (due.Expired b) → a.key ≡ b.key → a ≡ b
@@ -133,10 +135,11 @@ awaited_of told = record { shown_by = told.shown_by; numbers = told.numbers; unt
 lost_of : MissingEvent → Awaited → LostEvent
 lost_of key awaited = record { at = awaited.until; key = key; shown_by = awaited.shown_by; numbers = awaited.numbers }
 
-lost_one : (held : Held) (a b : LostEvent) → IsAwaited held (due.EventLost a) → IsAwaited held (due.EventLost b) → a.key ≡ b.key → a ≡ b
+pub lost_one : (waiting : FinMap missing_cmp Awaited) (a b : LostEvent) → finite.get waiting a.key ≡ Some (record { shown_by = a.shown_by; numbers = a.numbers; until = a.at })
+    → finite.get waiting b.key ≡ Some (record { shown_by = b.shown_by; numbers = b.numbers; until = b.at }) → a.key ≡ b.key → a ≡ b
 unfolding awaited_of lost_of
-lost_one held a b x y key =
-    let waits : awaited_of a ≡ awaited_of b = one_value (awaited_of a) (awaited_of b) (finite.get held.events.gaps.waiting b.key) (sym (ap (finite.get held.events.gaps.waiting) key) ∙ x) y in
+lost_one waiting a b x y key =
+    let waits : awaited_of a ≡ awaited_of b = one_value (awaited_of a) (awaited_of b) (finite.get waiting b.key) (sym (ap (finite.get waiting) key) ∙ x) y in
     ap (λ k. lost_of k (awaited_of a)) key ∙ ap (lost_of b.key) waits
 
 watch_of : SilentEvent → Watch
@@ -158,7 +161,7 @@ one_next held (due.Unanswered a) (due.Unanswered b) x y ab ba =
     (one_key calls_total exact_calls a.call b.call (by_key (due.Unanswered a) (due.Unanswered b) ab ba) (by_key (due.Unanswered b) (due.Unanswered a) ba ab)))
 one_next held (due.Missing a) (due.Missing b) x y ab ba =
     ap due.Missing
-    (missing_one held a b x y
+    (missing_one held.segments.waiting a b x y
     (one_key messages_total exact_messages (message_key a.key) (message_key b.key) (by_key (due.Missing a) (due.Missing b) ab ba) (by_key (due.Missing b) (due.Missing a) ba ab)))
 one_next held (due.Expired a) (due.Expired b) x y ab ba =
     ap due.Expired
@@ -170,7 +173,7 @@ one_next held (due.SubscribeUnanswered a) (due.SubscribeUnanswered b) x y ab ba 
     (by_key (due.SubscribeUnanswered b) (due.SubscribeUnanswered a) ba ab)))
 one_next held (due.EventLost a) (due.EventLost b) x y ab ba =
     ap due.EventLost
-    (lost_one held a b x y
+    (lost_one held.events.gaps.waiting a b x y
     (one_key missing_total exact_missing a.key b.key (by_key (due.EventLost a) (due.EventLost b) ab ba) (by_key (due.EventLost b) (due.EventLost a) ba ab)))
 one_next held (due.Silent a) (due.Silent b) x y ab ba =
     ap due.Silent

@@ -43,16 +43,16 @@ moment_after now millis = min (now + millis) (2 ^ 63 - 1)
 abbrev pub empty_held : AuditRules → List Rule → List ℕ → Bool → ℕ → Held
 empty_held rules bench ports learns now = record {
   times = record { rules = bench; answer_ms = rules.answer_ms };
-  calls = calls.new_book (record { limit = rules.limit; begins = now });
+  calls = calls.new_book (record { limit = rules.judged; begins = now });
   segments = segments.empty_book (record { slots = rules.segments.slots; limit = rules.segments.limit; timeout = rules.segments.timeout_ms }) 0;
-  offers = record { limit = rules.limit; standing = finite.empty; told_full = false };
-  servers = no_servers rules.limit;
-  subscriptions = no_subscribes rules.limit rules.answer_ms (moment_after now rules.answer_ms);
+  offers = record { limit = rules.judged; standing = finite.empty; told_full = false };
+  servers = no_servers rules.judged;
+  subscriptions = no_subscribes rules.judged rules.answer_ms (moment_after now rules.answer_ms);
   sessions = no_sessions rules.limit rules.overtake_ms;
   receivers = record { limit = rules.limit; settled = moment_after now rules.settle_ms; standing = finite.empty; told = finite.empty; told_full = false };
   events = new_sequence (record { limit = rules.limit; overtake_ms = rules.overtake_ms; counting = rules.counting });
-  cycles = record { limit = rules.limit; watched = finite.empty; told_full = false };
-  ways = record { limit = rules.limit; numbers = finite.empty; told_full = false };
+  cycles = record { limit = rules.judged; watched = finite.empty; told_full = false };
+  ways = record { limit = rules.judged; numbers = finite.empty; told_full = false };
   watched = watch_begun ports learns rules.limit;
   is_offered = false;
 }

@@ -11,3 +11,4 @@ pub mod Learning
 pub mod Audits
 pub mod CycleSteps
 pub mod groups
+pub mod Losses

@@ -86,7 +86,7 @@ impl<S: Reassembly> Books<S> {
         let watched = Watched::new(alloc, watch, rules.limit)?;
         let segments = SegmentBook::make(alloc, rules.segments)?;
         let calls = CallRules {
-            limit: rules.limit,
+            limit: rules.judged,
             begins: now,
         };
         let sequences = SequenceRules {
@@ -98,19 +98,19 @@ impl<S: Reassembly> Books<S> {
             times,
             calls: CallBook::new(alloc, calls),
             segments,
-            offers: OfferBook::new(alloc, rules.limit),
-            servers: ServerBook::new(alloc, rules.limit),
+            offers: OfferBook::new(alloc, rules.judged),
+            servers: ServerBook::new(alloc, rules.judged),
             subscriptions: SubscribeBook::new(
                 alloc,
-                rules.limit,
+                rules.judged,
                 rules.answer_ms,
                 moment_after(now, rules.answer_ms),
             ),
             sessions: SessionBook::new(alloc, rules.limit, rules.overtake_ms),
             receivers: ReceiverBook::new(alloc, rules.limit, moment_after(now, rules.settle_ms)),
             events: SequenceBook::new(alloc, sequences),
-            cycles: CycleBook::new(alloc, rules.limit),
-            ways: WayBook::new(alloc, rules.limit),
+            cycles: CycleBook::new(alloc, rules.judged),
+            ways: WayBook::new(alloc, rules.judged),
             watched,
             is_offered: false,
         })

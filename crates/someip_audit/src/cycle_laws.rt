@@ -86,7 +86,7 @@ pub fn an_audit_takes_these_steps()
     ensures all { (rules : AuditRules) (bench : List Rule) (ports : List ℕ) (learns : Bool) (begins : ℕ)
         (datagrams : List Seen) (state : AuditState) (steps : List Step)
         → Runs (audit_begun rules bench ports learns begins) [] datagrams state steps
-        → state.cycles ≡ book_of rules.limit steps }
+        → state.cycles ≡ book_of rules.judged steps }
 {}
 
 /// What an audit tells as silent after any datagrams, as long as its book of cycles was never full, has its reason in

@@ -7,7 +7,8 @@
 //! - [`is_sd`], [`read_payload`], [`sd_message`]: messages of Service Discovery, for whatever else goes over them;
 //! - [`groups`]: findings of one group, of which the first three are told;
 //! - [`Finding`]: what a datagram shows; [`FellDue`]: what falls due between datagrams;
-//! - [`laws`]: the definitions behind the contracts, by example; [`cycle_laws`]: why an event is told as silent.
+//! - [`laws`]: the definitions behind the contracts, by example; [`cycle_laws`]: why an event is told as silent;
+//!   [`loss_laws`]: what is told of sessions rests on few rules.
 #![tactic(auto)]
 
 mod any_message;
@@ -23,6 +24,7 @@ mod finding;
 pub mod groups;
 pub mod laws;
 mod learner;
+pub mod loss_laws;
 mod messages;
 mod rules;
 mod soonest;

@@ -5,8 +5,12 @@ use audit_traffic::sequence::Counting;
 /// The settings of an audit.
 #[derive(Clone, Copy, Debug, PartialEq, Eq)]
 pub struct AuditRules {
-    /// How many keys a book holds at most, and how many endpoints are learnt.
+    /// How many keys a book holds at most by which endpoints are learnt, and sessions told as lost and reboots; and how
+    /// many endpoints are learnt.
     pub limit: usize,
+    /// How many keys a book holds at most that judges something else: calls, offers, servers, Subscribes, events that
+    /// come in cycles, and ways. Where it is 0 these hold nothing, and what is told of sessions and reboots is the same.
+    pub judged: usize,
     /// How many milliseconds an answer may take: that to a REQUEST of which the rules of the bench say nothing,
     /// and that to a Subscribe.
     pub answer_ms: u32,

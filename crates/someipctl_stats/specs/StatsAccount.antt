@@ -1,5 +1,5 @@
 -- What `stats` prints of recordings.
-use Rattle.std.specs.Prelude.{◌≡◌, ℕ, List, [], ◌++◌, Option, Some, None, refl}
+use Rattle.std.specs.Prelude.{◌≡◌, ℕ, ◌-◌, ◌^◌, List, [], ◌++◌, Option, Some, None, refl}
 use Rattle.std.specs.List.{flat_map}
 use Rattle.audit_stats.specs.declared.full.FigureLimits.{FigureLimits}
 use Rattle.audit_stats.specs.Stats.{Stats, no_stats}
@@ -77,10 +77,18 @@ EndsStats state last text = EndsSo state.asked.wanted state.asked.form last stat
 
 -- ---- recordings
 
+-- the rules of an audit that tells of sessions alone: the books that only judge hold nothing, and it is settled as late as may be
+abbrev pub of_sessions : AuditRules → AuditRules
+of_sessions rules = record rules { judged = 0; settle_ms = 2 ^ 32 - 1 }
+
+-- by these the audit behind the figures goes
+abbrev pub asked_of_sessions : AskedStats → AskedStats
+asked_of_sessions asked = record asked { rules = of_sessions asked.rules }
+
 -- the figures of files were written, up to their fault, and what is told of them is so
 abbrev pub ShowsStats : List (Option (List ℕ)) → AskedStats → ShownRecording → Option (List ℕ) → Option (List ℕ) → Type 0
-ShowsStats inputs asked shown before after = GivesAccount TakesStats EndsStats inputs asked.wanted.packets (stats_begun asked) shown before after
+ShowsStats inputs asked shown before after = GivesAccount TakesStats EndsStats inputs asked.wanted.packets (stats_begun (asked_of_sessions asked)) shown before after
 
 -- a beginning of that text was written, which may be nothing
 abbrev pub BeginsStats : List (Option (List ℕ)) → AskedStats → Option (List ℕ) → Option (List ℕ) → Type 0
-BeginsStats inputs asked before after = BeginsAccount TakesStats EndsStats inputs asked.wanted.packets (stats_begun asked) before after
+BeginsStats inputs asked before after = BeginsAccount TakesStats EndsStats inputs asked.wanted.packets (stats_begun (asked_of_sessions asked)) before after

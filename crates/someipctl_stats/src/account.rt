@@ -4,7 +4,7 @@ ghost use Rattle.recording_packets.specs.View.{view_chosen};
 ghost use Rattle.someipctl_io.specs.declared.Fault.TheVariants.{CannotRead};
 ghost use Rattle.someipctl_io.specs.Sending.{Sends, Stops};
 ghost use Rattle.someipctl_recordings.specs.audit.Scenes.{view_seen};
-ghost use Rattle.someipctl_stats.specs.StatsAccount.{BeginsStats, ShowsStats, audit_before, stats_text, view_asked};
+ghost use Rattle.someipctl_stats.specs.StatsAccount.{BeginsStats, ShowsStats, audit_before, of_sessions, stats_text, view_asked};
 
 use crate::asked::StatsAsked;
 use crate::counting::{Counting, count_datagram, count_due};
@@ -13,7 +13,7 @@ use crate::lacking::put_lacks;
 use crate::lacks::Lacks;
 use audit_rules::Rules;
 use audit_stats::{FigureLimits, Figures};
-use someip_audit::{Audit, Finding};
+use someip_audit::{Audit, AuditRules, Finding};
 use someip_reassembly::Reassembly;
 use someip_tables::Moment;
 use someipctl_accounts::{Account, give_account};
@@ -101,6 +101,18 @@ impl<'a, S: Reassembly + Drop> Account for StatsAccount<'a, S> {
     }
 }
 
+/// The rules of an audit that tells of sessions alone: its judging books hold nothing, and no event is told that has no
+/// subscription. What it tells of sessions is what the whole audit tells of them.
+fn of_sessions(rules: &AuditRules) -> AuditRules
+    ensures { result ≡ of_sessions rules.now }
+{
+    AuditRules {
+        judged: 0,
+        settle_ms: u32::MAX,
+        ..*rules
+    }
+}
+
 /// Begins the audit at the moment of the first datagram.
 #[cold]
 #[inline(never)]
@@ -115,7 +127,7 @@ fn begin<S: Reassembly + Drop>(
 {
     let watch = watch_of(&asked.wanted);
     let bench = Rules::none(alloc);
-    *audit = Some(Audit::begin(alloc, &asked.rules, &bench, &watch, seen.now)?);
+    drop(audit.replace(Audit::begin(alloc, &asked.rules, &bench, &watch, seen.now)?));
     Ok(())
 }
 
@@ -163,7 +175,10 @@ pub fn show_stats<S: Reassembly + Drop, R: Read, W: Write>(
     };
     let mut account = StatsAccount::<S> {
         alloc,
-        asked: *asked,
+        asked: StatsAsked {
+            rules: of_sessions(&asked.rules),
+            ..*asked
+        },
         audit: None,
         findings: Vec::new(alloc),
         counting: Counting {
@@ -172,5 +187,7 @@ pub fn show_stats<S: Reassembly + Drop, R: Read, W: Write>(
             lacks: Lacks::none(),
         },
     };
-    give_account(alloc, sources, &asked.wanted.packets, &mut account, writer)
+    let shown = give_account(alloc, sources, &asked.wanted.packets, &mut account, writer);
+    drop(account);
+    shown
 }

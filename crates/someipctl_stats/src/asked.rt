@@ -8,7 +8,7 @@ use someipctl_recordings::Wanted;
 #[derive(Clone, Copy)]
 pub struct StatsAsked<'a> {
     /// The settings of the audit that learns endpoints, and tells which sessions of events are lost and who began
-    /// again.
+    /// again. What they say of its other books counts for nothing.
     pub rules: AuditRules,
     /// Which packets are looked at, at which ports and endpoints, and of which services, clients, addresses and times
     /// things count.

@@ -12,7 +12,9 @@ ghost use Rattle.audit_traffic.specs.declared.events.flow.EventFlow.{EventFlow};
 ghost use Rattle.audit_traffic.specs.declared.gaps.LostEvent.{LostEvent};
 ghost use Rattle.audit_traffic.specs.declared.sequence.Finding.TheVariants as sequence;
 ghost use Rattle.someip_audit.specs.declared.FellDue.TheVariants as due;
+ghost use Rattle.someip_audit.specs.declared.AuditRules.{AuditRules};
 ghost use Rattle.someip_audit.specs.declared.Finding.TheVariants as findings;
+ghost use Rattle.someip_audit.specs.Losses.{AgreeOnLosses};
 ghost use Rattle.someip_tables.specs.declared.hashed.Origin.{Origin};
 ghost use Rattle.someipctl_accounts.specs.Accounts.{IsAccount};
 ghost use Rattle.someipctl_io.specs.declared.form.Form.{Form};
@@ -27,7 +29,7 @@ ghost use Rattle.someipctl_stats.specs.Examples.{answered, began_again, once, on
 ghost use Rattle.someipctl_stats.specs.LackLines.{lacks_text};
 ghost use Rattle.someipctl_stats.specs.Micros.{micros_after};
 ghost use Rattle.someipctl_stats.specs.Shown.{lost_count, shown_of, shown_of_due, subject_of};
-ghost use Rattle.someipctl_stats.specs.StatsAccount.{AskedStats, EndsStats, TakesStats, stats_begun};
+ghost use Rattle.someipctl_stats.specs.StatsAccount.{AskedStats, EndsStats, TakesStats, of_sessions, stats_begun};
 ghost use Rattle.someipctl_stats.specs.StatsLines.{discovery_line, event_line, full_line, method_line, millis_text};
 ghost use Rattle.someipctl_stats.specs.StatsText.{figures_text};
 
@@ -124,6 +126,15 @@ pub fn a_recording_has_one_text()
     ensures { (asked : AskedStats) (arrivals : List ArrivalValue) (text other : List ℕ)
         → IsAccount TakesStats EndsStats (stats_begun asked) arrivals text
         → IsAccount TakesStats EndsStats (stats_begun asked) arrivals other → text ≡ other }
+{}
+
+/// The figures are those by the whole audit: of its settings those alone count on which what it tells of sessions rests.
+/// `show_stats` goes by others than are asked for, whose judging books hold nothing, and the text is the same.
+pub fn figures_rest_on_few_rules()
+    ensures rest { (asked : AskedStats) (rules : AuditRules) (arrivals : List ArrivalValue) (text other : List ℕ)
+        → AgreeOnLosses asked.rules rules → IsAccount TakesStats EndsStats (stats_begun asked) arrivals text
+        → IsAccount TakesStats EndsStats (stats_begun (record asked { rules = rules })) arrivals other → text ≡ other }
+    ensures of_sessions { (rules : AuditRules) → AgreeOnLosses rules (of_sessions rules) }
 {}
 
 /// Sessions that are lost count where `audit` tells their line: they are about what that is about. None does where a

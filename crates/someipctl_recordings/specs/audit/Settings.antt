@@ -49,6 +49,7 @@ pub record SaysRules (texts : SettingsValue) (rules : AuditRules) : Type 0 where
   pub overtake_is : overtake_in texts.overtake ≡ Some rules.overtake_ms
   pub counting_is : counting_in texts.sessions ≡ Some rules.counting
   pub limit_is : rules.limit ≡ 65536
+  pub judged_is : rules.judged ≡ 65536
   pub segments_are : rules.segments ≡ record { slots = 16; limit = 1048576; timeout_ms = 5000 }
 
 -- the text that the error names says none

@@ -125,7 +125,7 @@ method_of service method = record { service = service; method = Some method }
 -- an audit that tells the findings that are chosen so
 abbrev asks : WantedValue → AskedAudit
 asks wanted = record {
-  rules = record { limit = 65536; answer_ms = 2000; overtake_ms = 100; counting = ByEvent; settle_ms = 10000; segments = record { slots = 16; limit = 1048576; timeout_ms = 5000 } };
+  rules = record { limit = 65536; judged = 65536; answer_ms = 2000; overtake_ms = 100; counting = ByEvent; settle_ms = 10000; segments = record { slots = 16; limit = 1048576; timeout_ms = 5000 } };
   bench = [];
   wanted = wanted;
   form = Plain;

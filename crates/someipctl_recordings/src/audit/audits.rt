@@ -140,7 +140,7 @@ fn put_files<S: Reassembly + Drop, R: Read, W: Write>(
         audit: None,
         findings: Vec::new(alloc),
     };
-    put_audit(
+    let shown = put_audit(
         sources,
         asked,
         file,
@@ -148,7 +148,9 @@ fn put_files<S: Reassembly + Drop, R: Read, W: Write>(
         &mut gone,
         buffer,
         writer,
-    )
+    );
+    drop(auditing);
+    shown
 }
 
 /// Prints the audit of files, one after the other.
@@ -334,7 +336,7 @@ fn begin_with<S: Reassembly + Drop>(
     ensures same { OnErr result (audit.new ≡ audit.old) }
 {
     let watch = watch_of(&asked.wanted);
-    *audit = Some(Audit::begin(alloc, &asked.rules, asked.bench, &watch, seen.now)?);
+    drop(audit.replace(Audit::begin(alloc, &asked.rules, asked.bench, &watch, seen.now)?));
     Ok(())
 }
 

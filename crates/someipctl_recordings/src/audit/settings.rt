@@ -62,6 +62,7 @@ pub fn rules_in(texts: &SettingTexts<'_>) -> Result<AuditRules, SettingError>
     };
     Ok(AuditRules {
         limit: 65536,
+        judged: 65536,
         answer_ms,
         overtake_ms,
         counting,

@@ -444,6 +444,7 @@ fn comes_out(
 fn rules(limit: usize) -> AuditRules {
     AuditRules {
         limit,
+        judged: limit,
         answer_ms: 1000,
         overtake_ms: 20,
         counting: Counting::ByEvent,

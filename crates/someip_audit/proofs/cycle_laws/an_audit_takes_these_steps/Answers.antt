@@ -12,4 +12,4 @@ pub returns-clause-seen : goal.returns-clause-seen
 returns-clause-seen c = seen_is
 
 pub returns-clause-all : goal.returns-clause-all
-returns-clause-all c = λ rules bench ports learns begins datagrams state steps runs. run_is rules.limit datagrams (audit_begun rules bench ports learns begins) state [] steps runs refl
+returns-clause-all c = λ rules bench ports learns begins datagrams state steps runs. run_is rules.judged datagrams (audit_begun rules bench ports learns begins) state [] steps runs refl

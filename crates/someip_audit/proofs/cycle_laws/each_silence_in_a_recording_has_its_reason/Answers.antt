@@ -6,4 +6,4 @@ use Rattle.someip_audit.proofs.cycle_laws.each_silence_in_a_recording_has_its_re
 
 pub returns : goal.returns
 returns c = λ rules bench ports learns begins now datagrams state after steps told runs fits drains.
-    all_reasoned rules.limit steps now told state after (run_is rules.limit datagrams (audit_begun rules bench ports learns begins) state [] steps runs refl) fits drains
+    all_reasoned rules.judged steps now told state after (run_is rules.judged datagrams (audit_begun rules bench ports learns begins) state [] steps runs refl) fits drains
