@@ -1,4 +1,4 @@
-"""The recording examples/audit.pcap, whose story docs/FORMATS.md tells: a conversation in which each kind of finding
+"""The recording examples/audit.pcap, whose story docs/FORMATS.md tells in part: a conversation in which each kind of finding
 comes, but for `full`. Written to standard output.
 
     story.py > examples/audit.pcap
