@@ -3,9 +3,6 @@
 # Whatever bytes come, the program ends with lines of the kinds that there are and with one named fault at most, in
 # little memory. Of a recording that is cut, what is printed is a beginning of what is printed of the whole.
 
-# What the stored runs of the programs read.
-data=$here/crates/someipctl_trials/data
-
 # Shows the recording of the file $1, with all that the command can do.
 show_recording() {
     memory=30000
@@ -79,9 +76,10 @@ change_recording() {
 
 sweep_recordings() {
     begin_part recordings
-    for name in examples/one.pcap examples/whole.pcap recordings/kinds.pcap recordings/blocks.pcapng; do
-        cut_recording "$data/$name"
-        change_recording "$data/$name"
+    data=$here/sweeps/cases/data/recordings
+    for path in "$examples/one.pcap" "$examples/whole.pcap" "$data/kinds.pcap" "$data/blocks.pcapng"; do
+        cut_recording "$path"
+        change_recording "$path"
     done
     end_part
 }

@@ -2,7 +2,7 @@
 import glob, os, re
 
 TOP = os.path.dirname(os.path.dirname(os.path.dirname(os.path.abspath(__file__))))
-CASES = "crates/someipctl_trials/data/cases"
+CASES = "sweeps/cases/cases"
 # The gate tries the wrong bodies of the first, `./wrong-bodies` those of both.
 FOLDERS = ("must-fail", "wrong-bodies")
 _texts = {}
@@ -41,7 +41,7 @@ def is_test_crate(crate):
 
 
 def case_pattern(case):
-    """The pattern of the line of `data/cases` that a case is: `..` stands for the setup or schedule of two nodes."""
+    """The pattern of the line of `cases` that a case is: `..` stands for the setup or schedule of two nodes."""
     return "^" + re.escape(case).replace(re.escape(" .."), r" examples/runs/two\.(?:toml|txt)") + "$"
 
 

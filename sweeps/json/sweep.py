@@ -1,8 +1,7 @@
 #!/usr/bin/env python3
 """json: the lines of the commands, plain and as JSON objects.
 
-sweep.py PROGRAM calls the built program on each capture, recording, run and file of vectors of the trials, with
-`--json` and without. Each plain line has to have one object, in order, under one key each. From each object the plain
+sweep.py PROGRAM makes those of the calls of `sweeps/cases` that print lines, and more, with `--json` and without. Each plain line has to have one object, in order, under one key each. From each object the plain
 line is made again (plain.py); of a value only its numbers and texts are compared. The status has to be the same. Where
 Python has the package `jsonschema`, each object has to fit docs/json-lines.schema.json.
 """
@@ -11,12 +10,13 @@ import os
 import re
 import subprocess
 import sys
-
-from plain import PLAIN, origin
+import tempfile
 
 HERE = os.path.dirname(os.path.abspath(__file__))
 TOP = f"{HERE}/../.."
-DATA = f"{TOP}/crates/someipctl_trials/data"
+sys.path[:0] = [HERE, f"{TOP}/sweeps/cases"]
+from plain import PLAIN, origin
+from room import furnish, read_cases
 
 try:
     import jsonschema
@@ -115,7 +115,7 @@ class Sweep:
         return None
 
 
-# Further calls, whose cases the trials do not have. They are made beside `examples`.
+# Further calls, which are no cases.
 MORE = [
     "recording --frames --endpoints --whole --types examples/speed.toml examples/whole.pcap",
     "recording --frames --endpoints --whole --types examples/types.toml examples/route.pcap",
@@ -135,19 +135,19 @@ MORE = [
 
 
 def calls():
-    """The calls among the cases of the trials that print lines, and read no standard input; and more. Each with its folder."""
-    with open(f"{DATA}/cases", encoding="utf8") as file:
-        lines = file.read().splitlines()
-    for room, line in [*((DATA, line) for line in lines), *((TOP, line) for line in MORE)]:
-        words = line.split()
-        if words and words[0] in PLAIN and not {"--json", "-", "--expect", "--begins"} & set(words):
-            yield room, words
+    """The words of the cases that print lines, and read no standard input; and more."""
+    for line in [*read_cases(), *MORE]:
+        words = line.split(" ")
+        if words[0] in PLAIN and not {"--json", "-", "--expect", "--begins"} & set(words):
+            yield words
 
 
 def main():
     sweep = Sweep(sys.argv[1])
-    for room, words in calls():
-        sweep.judge(room, *words)
+    with tempfile.TemporaryDirectory() as room:
+        furnish(room)
+        for words in calls():
+            sweep.judge(room, *words)
     told_by = "no finding" if not sweep.findings else f"{sweep.findings} findings"
     print(f"json: {sweep.cases} calls, {sweep.lines} lines: {told_by}")
     sys.exit(1 if sweep.findings else 0)
