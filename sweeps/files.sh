@@ -14,8 +14,7 @@
 #   before more comes, and the head of a packet that is too long, which has to be told then; and 39 MB within 20 MB of
 #   memory.
 #
-# In memory, tests of `tests_nodes` let each call of a reader and of a writer fail, over `show`, `payload`,
-# `vectors` and `run`.
+# The part `calls` lets each read and each write of small inputs fail.
 
 # ---- Calls of the program, and what is expected of them
 

@@ -112,14 +112,11 @@ def wrong_body_faults(rules):
 
 
 def count_faults():
-    """Where sweeps/counts has no line of a part, or more, or another one of `inputs` than the gate expects."""
+    """Where sweeps/counts has no line of a part, or more."""
     lines = [line for line in text("sweeps/counts").split("\n") if line and not line.startswith("#")]
     told = [line.partition(":")[0] for line in lines]
     if sorted(told) != sorted(parts_of_sweeps()):
         yield f"sweeps/counts: it has lines of {' '.join(told)}, and sweeps/run the parts {' '.join(parts_of_sweeps())}"
-    expected = text("crates/someipctl_trials/stdout").strip().split("\n")[-1]
-    if expected not in lines:
-        yield f"sweeps/counts: no line '{expected}'"
 
 
 def faults():

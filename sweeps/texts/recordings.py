@@ -5,11 +5,17 @@ MESSAGE = struct.pack(">HHIHHBBBB", 0x1111, 1, 8, 0, 1, 1, 1, 1, 0)
 SHOWN = "1 message 1111.0001 length 8 client 0000 session 0001 interface 01 type REQUEST_NO_RETURN code 00 payload -\n"
 
 
-def ipv4(flags=0, protocol=17, udp_len=8 + len(MESSAGE), version=0x45):
+def ipv4(flags=0, protocol=17, udp_len=8 + len(MESSAGE), version=0x45, identification=0):
     """An IPv4 packet from 1.2.3.4:40001 to 1.2.3.5:30509 with a message that waits for no answer."""
     udp = struct.pack(">HHHH", 40001, 30509, udp_len, 0) + MESSAGE
-    return struct.pack(">BBHHHBBH", version, 0, 20 + len(udp), 0, flags, 64, protocol, 0) + bytes(
+    return struct.pack(">BBHHHBBH", version, 0, 20 + len(udp), identification, flags, 64, protocol, 0) + bytes(
         (1, 2, 3, 4, 1, 2, 3, 5)) + udp
+
+
+def fragment(identification, place, byte):
+    """A fragment of a packet with eight bytes, which is not the last."""
+    head = struct.pack(">BBHHHBBH", 0x45, 0, 28, identification, 0x2000 | place, 64, 17, 0)
+    return head + bytes((1, 2, 3, 4, 1, 2, 3, 5)) + bytes((byte,)) * 8
 
 
 # Each kind, and packets of it, each of an interface: interface 0 is of raw IP, interface 1 of another link type.
@@ -45,6 +51,36 @@ def recording(packets):
     return section() + interface(101) + interface(105) + b"".join(packet(*it) for it in packets)
 
 
+# Counts of packets of each kind, and what is told of them. The last three kinds are copies, fragments without the rest
+# and fragments that differ.
+LEFT_OUT = (
+    ((1, 0, 0, 0, 0, 0, 0, 0), "left out 1 of another link type"),
+    ((0, 2, 0, 0, 0, 0, 0, 0), "left out 2 not IPv4"),
+    ((0, 0, 3, 2, 0, 0, 1, 0), "left out 3 not UDP, 2 cut short, 1 fragments without the rest"),
+    ((0, 0, 0, 0, 0, 7, 0, 2), "left out 7 copies, 2 fragments that differ"),
+    ((1, 2, 4, 5, 60, 7, 8, 9), "left out 1 of another link type, 2 not IPv4, 4 not UDP, 5 cut short, 60 with a bad UDP "
+     "length, 7 copies, 8 fragments without the rest, 9 fragments that differ"),
+)
+
+
+def left_out(counts):
+    """So many packets of each kind, none of which is a copy of another but those of the sixth."""
+    links, others, not_udp, cut, lengths, copies, parts, differing = counts
+    numbers = iter(range(1, 1000))
+    yield from ((1, ipv4(identification=next(numbers))) for _ in range(links))
+    yield from ((0, ipv4(version=0x65, identification=next(numbers))) for _ in range(others))
+    yield from ((0, ipv4(protocol=6, identification=next(numbers))) for _ in range(not_udp))
+    yield from ((0, ipv4(identification=next(numbers))[:-1]) for _ in range(cut))
+    yield from ((0, ipv4(udp_len=7, identification=next(numbers))) for _ in range(lengths))
+    if copies:
+        yield from [(0, ipv4(identification=next(numbers)))] * (1 + copies)
+    yield from ((0, fragment(next(numbers), 0, 1)) for _ in range(parts))
+    if differing:
+        number = next(numbers)
+        yield from ((0, fragment(number, place, 1)) for place in range(differing - 1))
+        yield 0, fragment(number, 0, 2)
+
+
 DATAGRAM = (0, ipv4())
 IPV6 = KINDS[1][1][0]
 # What ends a recording after its packets, and the fault, whose place is the first byte of it.
@@ -76,6 +112,9 @@ def recordings():
         passed = f"not looked at {datagrams} datagrams\n" if datagrams else ""
         text = f"audited 0 datagrams, 0 messages, 0 findings\n{left}{passed}no Offer was seen\n"
         yield ["audit"], data, status, text, fault
+    for counts, text in LEFT_OUT:
+        shown = SHOWN if counts[5] else ""
+        yield ["recording", "--dedup", "1"], recording(left_out(counts)), 0, shown, f"recording: {text}\n"
 
 
 def recorded():

@@ -1,16 +1,16 @@
-"""The sweep `texts`: what the built program says of texts that are not quite right, by rows: of setups, types files,
-schedules, searches, shapes, payloads and recordings, and of words that come to no command.
+"""texts: what the built program says of texts, by rows, most of which are not quite right.
 
-    sweep.py PROGRAM
+sweep.py PROGRAM tries the rows of each file beside it.
 
-Rows of texts that are not quite right, and what the program says of each: setups, types files, files of rules, schedules, moves and
-goals of searches, texts of shapes, payloads, recordings, and words that come to no command. A setup is run over a schedule without steps; most rows change
-one place of the worked setup, and those of `in_order` put fault after fault into a setup with every key (but `liar`,
-which a row adds), so that each is told before all that stand there already. A types file shows a request, whose value
-is told where the file has a table. Each row stands in a file of `sweeps/texts`.
+Setups, types files, files of rules, schedules, moves and goals of searches, texts of shapes, payloads, recordings, and
+words that come to no command are refused. A setup is run over a schedule without steps; most rows change one place of the
+worked setup, and those of `in_order` put fault after fault into a setup with every key (but `liar`, which a row adds), so
+that each is told before all that stand there already. A types file shows a request, whose value is told where the file
+has a table.
 
-A value that the vectors expect is encoded from its text, and what that writes is told by the same text. Each front of the
-text is read, or is refused where it ends; and with a space behind it the text is refused there.
+Captures are read, and services are chosen of one. Messages of recordings are put together from their segments. A value
+that the vectors expect is encoded from its text, and what that writes is told by the same text. Each front of the text is
+read, or is refused where it ends; and with a space behind it the text is refused there.
 """
 import concurrent.futures
 import os
@@ -19,6 +19,7 @@ import sys
 import tempfile
 from pathlib import Path
 
+from captures import captures
 from payloads import FAULTS, TAGGED_FAULTS, bad_shapes, deep_shapes
 from printed import fronts_of, printed_values
 from recordings import recordings
@@ -27,6 +28,7 @@ from schedule_rows import schedules
 from searches import searches
 from setups import setups
 from types_files import types
+from wholes import whole_messages
 from words import HELP, USAGE, values
 
 EXAMPLES = Path(__file__).resolve().parents[2] / "examples"
@@ -152,6 +154,13 @@ def is_recorded(program, words, data, status, shown, told):
     return said_of(program, data, words) == (status, shown, told)
 
 
+def is_whole(program, words, data, types, status, shown):
+    with tempfile.NamedTemporaryFile("w") as file:
+        file.write(types)
+        file.flush()
+        return said_of(program, data, [*words, "--types", file.name]) == (status, shown, "")
+
+
 PARTS = {
     "setup": (is_setup, setups()),
     "types file": (is_types, types()),
@@ -166,6 +175,8 @@ PARTS = {
     "usage": (is_usage, USAGE),
     "value": (is_value, tuple(values())),
     "recording": (is_recorded, tuple(recordings())),
+    "capture": (is_recorded, tuple(captures())),
+    "whole message": (is_whole, tuple(whole_messages())),
 }
 
 

@@ -133,6 +133,9 @@ TOLD_FIRST = (
      "error: invalid value for '--whole-slots <N>': 1 to 1024", RECORDING),
     ("audit|--settle-ms|x|--answer-ms|0|missing", "error: invalid value for '--answer-ms <N>': 1 to 4294967295", AUDIT),
     ("stats|--sessions|x|--overtake-ms|x|missing", "error: invalid value for '--overtake-ms <N>': 0 to 60000", STATS),
+    ("recording|--whole-timeout=|missing", "error: limits of whole messages need '--whole'", RECORDING),
+    ("show|missing|--types=|--json|--service=", "error: invalid value '' for '--service <SERVICES>': services are four hex "
+     "digits, perhaps with a dot and four more, with commas between them", "Usage: someipctl show [OPTIONS] <CAPTURE>"),
     ("stats|--sessions|x|missing", "error: invalid value for '--sessions <HOW>': event or sender", STATS),
     ("recording|--whole-limit|1400|missing", "error: limits of whole messages need '--whole'", RECORDING),
     ("recording|--whole-slots|1|missing", "error: limits of whole messages need '--whole'", RECORDING),
@@ -149,11 +152,39 @@ TOLD_FIRST = (
      "error: limits of whole messages need '--whole'", RECORDING),
 )
 # Values of `--service` that are none.
-BAD_SERVICES = ("x", "123", "12345", "1234.", "1234.042", "1234,", ",1234", "1234 ", "1234.0421.1", "0x1234")
+BAD_SERVICES = (
+    "x", "123", "12345", "1234.", "1234.042", "1234,", ",1234", "1234 ", "1234.0421.1", "0x1234", "", ",", "1111,,2222",
+    "1111, 2222", " 1111", "+111", "111g", "11\xe9", ".8001", "1111.80011", "1111.800g", "111g.8001", "1111.+001",
+    "1111.11\xe9", "1111:8001", "111108001", "1111.8001.0001", "1111,222g", "111g,2222",
+)
 SHOW = "Usage: someipctl show [OPTIONS] <CAPTURE>"
 # Files of which two cannot be read, and the first is told: a types file before a recording, a setup before a schedule.
 NAMED_FIRST = ("recording|--types|nowhere|missing", "show|--types|nowhere|missing", "run|nowhere|missing",
                "run|--expect|missing|nowhere|missing", "run|--begins|missing|nowhere|missing", "chart|nowhere|missing")
+# Words whose options stand in each order and form, and the file that is told first.
+COMMANDS = (
+    ("recording|x", "x"),
+    ("recording|x|-|y", "x"),
+    ("recording|--endpoints|--ports|1,2|x", "x"),
+    ("recording|x|--json", "x"),
+    ("recording|--service|1111|--types|t|--whole|--whole-limit|1400|--whole-slots|2|--whole-timeout|3|x", "t"),
+    ("recording|--interface|0,1|--vlan|5|x|--dedup|10|--frames|y", "x"),
+    ("recording|--address|1.2.3.4|--client=0101|--learned|--from|1|--until|2.5|x", "x"),
+    ("vectors|x", "x"),
+    ("vectors|-|--json", "-"),
+    ("run|--json|x|y", "x"),
+    ("run|x|y", "x"),
+    ("run|--lines|x|--expect|t|y", "x"),
+    ("run|--begins=t|x|y", "x"),
+    ("chart|x|y", "x"),
+    ("show|x", "x"),
+    ("show|--service|1111.8001,2222|--types|t|x", "t"),
+    ("show|-", "-"),
+    ("show|", ""),
+    ("show|help", "help"),
+    ("show|--|-x", "-x"),
+    ("show|a b", "a b"),
+)
 # Commands for which `-` is the name of a file, which is not there, and not standard input.
 NAMED_DASH = ("show|-", "vectors|-", "run|-|missing", "chart|-|missing", "show|--types|-|missing",
               "recording|--types|-|missing", "run|--expect|missing|-|missing")
@@ -164,7 +195,7 @@ def values():
     for words, option, name, least, most, usage in NUMBERS:
         told = f"error: invalid value for '{option} <{name}>': {least} to {most}\n\n{usage}\n"
         below = [str(least - 1)] if least else ["-1"]
-        for text in (*below, str(most + 1), f"0{most}", "", "+1", "x", str(2**64)):
+        for text in (*below, str(most + 1), f"0{most}", "", "+1", "x", f"{most} ", hex(most), str(2**64), str(2**64 + most)):
             yield f"{words}|{option}={text}|missing", 2, told
         for number in (least, most):
             yield f"{words}|{option}|{number}|missing", 4, "cannot read missing\n"
@@ -191,6 +222,10 @@ def values():
             yield (f"{command}|--service|{text}|{files}", 2, f"error: invalid value '{text}' for "
                    "'--service <SERVICES>': services are four hex digits, perhaps with a dot and four more, with "
                    f"commas between them\n\n{usage}\n")
+    for words, file in COMMANDS:
+        yield words, 4, f"cannot read {file}\n"
+    for words in ("payload|u8|", "payload|u8|00 00", "payload|fixed<0,u8>|"):
+        yield words, 1, "bad hex\n"
     for words in NAMED_FIRST:
         yield words, 4, "cannot read nowhere\n"
     for words in NAMED_DASH:
