@@ -1,15 +1,15 @@
 #!/usr/bin/env python3
 """calls: commands whose reads and writes move few bytes, and fail.
 
-sweep.py PROGRAM makes each call of rows.py with `failing_calls.c` loaded, so that each read and each write to standard
-output moves one byte. What comes then is judged, and after it
+sweep.py PROGRAM makes each call of rows.py with `failing_calls.c` loaded, so that each read and each write to
+standard output moves one byte. What comes then is judged, and after it
 
-- each read of one of its files fails in turn: by an error of the system, which is told as `cannot read` with the file's
-  name and status 4, and by want of memory, which is told as `out of memory` with status 3. Nothing was printed, or what
-  the row says of a recording that is shown as it is read. A read that is not made changes nothing: a file of n bytes
-  takes n + 1 of them, of which the last finds its end;
-- each write fails in turn: by an error of the system, and by taking nothing. It is told as `cannot write` with status 4,
-  and what was written before is printed. A write that is not made changes nothing;
+- each read of one of its files fails in turn: by an error of the system, which is told as `cannot read` with the
+  file's name and status 4, and by want of memory, which is told as `out of memory` with status 3. Nothing was
+  printed, or what the row says of a recording that is shown as it is read. A read that is not made changes nothing: a
+  file of n bytes takes n + 1 of them, of which the last finds its end;
+- each write fails in turn: by an error of the system, and by taking nothing. It is told as `cannot write` with status
+  4, and what was written before is printed. A write that is not made changes nothing;
 - the whole is written where writes take 7 bytes, and 1000.
 
 Long lines, whose payloads end at the edges of what is turned into digits and held back at once, come whole through
@@ -39,8 +39,8 @@ class Sweep:
 
     def __init__(self, program, room):
         self.program, self.room, self.calls, self.findings = program, room, 0, []
-        words = [os.environ.get("CC", "cc"), "-O1", "-shared", "-fPIC", "-o", f"{room}/calls.so", f"{HERE}/failing_calls.c"]
-        subprocess.run(words, check=True)
+        words = ["-O1", "-shared", "-fPIC", "-o", f"{room}/calls.so", f"{HERE}/failing_calls.c"]
+        subprocess.run(["cc", *words], check=True)
 
     def call(self, row, folder, **how):
         """The status of a row's call, and what comes on standard output and on standard error."""

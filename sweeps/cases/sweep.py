@@ -2,12 +2,12 @@
 """cases: commands with what they print.
 
 sweep.py PROGRAM calls the built program on the words of each line of the file `cases`, between which stands one space
-each, in a folder with the files of `data` and `examples`. All calls have one standard input, examples/one.pcap, which the
-first of them that reads it takes whole.
+each, in a folder with the files of `data` and `examples`. All calls have one standard input, examples/one.pcap, which
+the first of them that reads it takes whole.
 
 The file `expected` has what each has to print: a line `> ` with the words, then what comes on standard output and on
-standard error, in the order in which it comes, and a line `= ` with the exit status. It is written from the rules of the
-pages, never from what the program prints. A call that takes longer than a minute is a finding.
+standard error, in the order in which it comes, and a line `= ` with the exit status. It is written from the rules of
+the pages, never from what the program prints. A call that takes longer than a minute is a finding.
 """
 import difflib
 import os

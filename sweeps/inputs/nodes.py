@@ -1,17 +1,18 @@
 #!/usr/bin/env python3
 """nodes: datagrams that are cut and changed, as `inputs` changes them, and handed to a node.
 
-nodes.py PROGRAM runs the node b of examples/runs/two.toml, which wants an instance, by the built program. In place of its
-node a stands a liar under that one's address, which sends all that b gets: so each datagram comes from a's endpoint of
-Service Discovery and from the endpoint of its instance, to b's endpoint of Service Discovery, to the group and to b's
-client. Each of the six goes to a node that has just begun, and to one that went through the first nine steps of
-examples/runs/two.txt: it knows the offer, had a call answered, and is subscribed. Nodes begin anew each time.
+nodes.py PROGRAM runs the node b of examples/runs/two.toml, which wants an instance, by the built program. In place of
+its node a stands a liar under that one's address, which sends all that b gets: so each datagram comes from a's
+endpoint of Service Discovery and from the endpoint of its instance, to b's endpoint of Service Discovery, to the
+group and to b's client. Each of the six goes to a node that has just begun, and to one that went through the first
+nine steps of examples/runs/two.txt: it knows the offer, had a call answered, and is subscribed. Nodes begin anew each
+time.
 
 The node takes the datagram without refusing it, and then answers a call of the instance as it owes it:
 
-- Where the node told in answer to the datagram that the instance is known, or is gone, the last such line decides; else it
-  is as before, unknown to the new node, and at 192.168.0.1:30509 for the other. A datagram may hold an Offer or a
-  StopOffer, or a changed one with another port, and the node's own line says what it took of it.
+- Where the node told in answer to the datagram that the instance is known, or is gone, the last such line decides;
+  else it is as before, unknown to the new node, and at 192.168.0.1:30509 for the other. A datagram may hold an Offer
+  or a StopOffer, or a changed one with another port, and the node's own line says what it took of it.
 - Where the instance is known the call is told and sent there, byte for byte as by a node that got no datagram: with
   session 1 from the new node and 2 from the other. No datagram that comes moves the sessions of calls.
 - Where it is not known the call is refused as `NotOffered`.

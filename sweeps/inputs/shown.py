@@ -1,4 +1,5 @@
-"""The lines that `show` prints of a datagram, told from docs/PROTOCOL.md and docs/FORMATS.md and not from the sources."""
+"""The lines that `show` prints of a datagram, told from docs/PROTOCOL.md and docs/FORMATS.md and not from the
+sources."""
 import os
 import struct
 import sys

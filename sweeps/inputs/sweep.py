@@ -7,10 +7,10 @@ Offer, the answer and the Ack of examples/runs/two.txt.
 Datagrams. `show` has to print the lines that `shown.py` tells of each, in one call. The payload of each message of a
 vector is cut and changed by itself too, and shown as Service Discovery.
 
-Payloads, by the shape of their vector, in messages with a types file. A value uses no more bytes than there are, and the
-place of a fault is at most their number. `encode` writes each value that was read, and what it wrote is shown as the same
-value, which uses all of it. A text that came without its mark may have no room for it. A shape that no payload has tells
-so of all bytes.
+Payloads, by the shape of their vector, in messages with a types file. A value uses no more bytes than there are, and
+the place of a fault is at most their number. `encode` writes each value that was read, and what it wrote is shown as
+the same value, which uses all of it. A text that came without its mark may have no room for it. A shape that no
+payload has tells so of all bytes.
 """
 import concurrent.futures
 import os
@@ -25,6 +25,8 @@ from wire import messages_of
 
 # So many shapes stand in a types file.
 SHAPES = 30
+# What is told of shapes that no payload has.
+IMPOSSIBLE = (["fault BadShape at 0"], ["fault TooDeep at 0"])
 DISCOVERY = "ffff8100{:08x}0000000101010200"
 MESSAGE = "{:04x}0001{:08x}0000000101010000"
 TABLE = "[[message]]\nservice = 0x{:04x}\nmethod = 0x0001\ntype = 'REQUEST'\nshape = '{}'\n"
@@ -70,18 +72,17 @@ class Sweep:
 
     def sweep_payloads(self, payloads):
         """Shows each payload by its shape, and encodes what was read."""
-        shapes = list(dict.fromkeys(shape for shape, _ in payloads))
+        shapes = dict.fromkeys(shape for shape, _ in payloads)
         told = {shape: self.run("payload", shape, "-")[1] for shape in shapes}
-        for at in range(0, len(shapes), SHAPES):
-            of_file = [shape for shape in shapes[at:at + SHAPES] if told[shape] not in (["fault BadShape at 0"], ["fault TooDeep at 0"])]
-            rows = [(shape, it) for shape, whole in payloads if shape in of_file for it in changes(whole)]
-            self.sweep_values(of_file, rows)
-        for shape, whole in payloads:
-            if told[shape] in (["fault BadShape at 0"], ["fault TooDeep at 0"]):
-                for it in changes(whole):
-                    came = self.run("payload", shape, it.data.hex() or "-")
-                    if came != (1, told[shape], ""):
-                        self.find(f"{it.origin}: {shape} {it.data.hex()}: {came}")
+        possible = [shape for shape in shapes if told[shape] not in IMPOSSIBLE]
+        for at in range(0, len(possible), SHAPES):
+            chosen = possible[at:at + SHAPES]
+            rows = [(shape, it) for shape, whole in payloads if shape in chosen for it in changes(whole)]
+            self.sweep_values(chosen, rows)
+        for shape, it in ((shape, it) for shape, whole in payloads if shape not in possible for it in changes(whole)):
+            came = self.run("payload", shape, it.data.hex() or "-")
+            if came != (1, told[shape], ""):
+                self.find(f"{it.origin}: {shape} {it.data.hex()}: {came}")
 
     def values_of(self, shapes, rows):
         """The text of the value of each row, and how many of how many bytes it uses; or the fault and its place."""
@@ -128,7 +129,8 @@ class Sweep:
 
 def as_discovery(given):
     """The datagram with a message of Service Discovery whose payload an input is."""
-    return Input(f"{given.origin}, as Service Discovery", bytes.fromhex(DISCOVERY.format(8 + len(given.data))) + given.data)
+    head = bytes.fromhex(DISCOVERY.format(8 + len(given.data)))
+    return Input(f"{given.origin}, as Service Discovery", head + given.data)
 
 
 def payloads_in(datagram):

@@ -185,6 +185,8 @@ COMMANDS = (
     ("show|--|-x", "-x"),
     ("show|a b", "a b"),
 )
+# Words whose HEX is empty, or has a space.
+BAD_HEX = ("payload|u8|", "payload|u8|00 00", "payload|fixed<0,u8>|")
 # Commands for which `-` is the name of a file, which is not there, and not standard input.
 NAMED_DASH = ("show|-", "vectors|-", "run|-|missing", "chart|-|missing", "show|--types|-|missing",
               "recording|--types|-|missing", "run|--expect|missing|-|missing")
@@ -222,11 +224,16 @@ def values():
             yield (f"{command}|--service|{text}|{files}", 2, f"error: invalid value '{text}' for "
                    "'--service <SERVICES>': services are four hex digits, perhaps with a dot and four more, with "
                    f"commas between them\n\n{usage}\n")
+    yield from told_of_files()
+
+
+def told_of_files():
+    """The same of words that are taken, and of HEX."""
     for words, file in COMMANDS:
         yield words, 4, f"cannot read {file}\n"
-    for words in ("payload|u8|", "payload|u8|00 00", "payload|fixed<0,u8>|"):
-        yield words, 1, "bad hex\n"
     for words in NAMED_FIRST:
         yield words, 4, "cannot read nowhere\n"
     for words in NAMED_DASH:
         yield words, 4, "cannot read -\n"
+    for words in BAD_HEX:
+        yield words, 1, "bad hex\n"
