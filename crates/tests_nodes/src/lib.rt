@@ -3,7 +3,7 @@
 //!
 //! Tests stand over the crates that they try, since a crate is proved again with its tests. What is tried
 //! stands in tables of plain data, and the rows of one kind are tried by one test. Commands with what they print are
-//! the cases of `someipctl_trials`; of the program stands here what no command line shows.
+//! cases and rows of the folder `sweeps`; of the program stands here what no command line shows.
 //!
 //! The module `of_CRATE` has the tests of that crate, and those that try it together with crates below it:
 //!
@@ -13,12 +13,9 @@
 //!   right are rows of the sweep `texts`, as are types files;
 //! - `of_someip_world`: short runs, and runs over both bodies of reassembly;
 //! - `of_recording_writing`: packets that are written;
-//! - `of_someipctl_show`: captures and payloads;
-//! - `of_someipctl_recordings`: what is left out of a recording, and recordings whose messages are put together;
-//! - `of_someipctl_cli`: what words come to, the texts and statuses of failures, and the laws of the program.
+//! - `of_someipctl`: calls that no command line makes.
 //!
-//! For several of them there are `printed` and `slow`: how values are printed, and readers and writers that move few
-//! bytes a call; and `showing`: commands without what they add.
+//! For several of them there is `printed`: how values are printed.
 #![tactic(auto)]
 
 #[cfg(test)]
@@ -34,14 +31,6 @@ mod of_someip_world_schedule;
 #[cfg(test)]
 mod of_someip_world_setup;
 #[cfg(test)]
-mod of_someipctl_cli;
-#[cfg(test)]
-mod of_someipctl_recordings;
-#[cfg(test)]
-mod of_someipctl_show;
+mod of_someipctl;
 #[cfg(test)]
 mod printed;
-#[cfg(test)]
-mod showing;
-#[cfg(test)]
-mod slow;

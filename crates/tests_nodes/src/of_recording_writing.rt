@@ -1,5 +1,4 @@
 //! Packets that are written, byte for byte.
-use crate::slow::{Limits, SlowWriter, UNLIMITED};
 use recording::{Record, Time};
 use recording_writing::{PacketWriter, Put};
 use someipctl_io::{Buffer, PrintFault};
@@ -115,7 +114,7 @@ fn packet_of(row: &Row) -> Record<'static> {
 }
 
 /// Writes the head of the section and the rows. Tells whether each was told so.
-fn write_rows(alloc: Global, file: &mut SlowWriter) -> Result<bool, PrintFault> {
+fn write_rows(alloc: Global, file: &mut Vec<u8>) -> Result<bool, PrintFault> {
     let mut buffer = Buffer::new(alloc)?;
     let mut packets = PacketWriter::begin(alloc, &mut buffer, file)?;
     let mut is_told = true;
@@ -143,29 +142,7 @@ fn are_rows(bytes: &[u8]) -> bool {
 
 #[test]
 fn packets_are_written(rt: HostRuntime) {
-    let mut file = SlowWriter::new(rt.alloc(), UNLIMITED);
+    let mut file = Vec::new(rt.alloc());
     assert!(rt; matches!(write_rows(rt.alloc(), &mut file), Ok(true)));
-    assert!(rt; are_rows(&file.taken));
-}
-
-/// Whether a writer that fails at this call of a byte each has a beginning of the file.
-fn is_begun(alloc: Global, fails_at: usize, whole: &[u8]) -> bool {
-    let limits = Limits {
-        most: 1,
-        fails_at,
-        takes_nothing: false,
-    };
-    let mut file = SlowWriter::new(alloc, limits);
-    matches!(write_rows(alloc, &mut file), Err(PrintFault::CannotWrite))
-        && file.taken.len() == fails_at
-        && whole.starts_with(&file.taken)
-}
-
-#[test]
-fn packets_are_written_as_far_as_the_writer_takes_them(rt: HostRuntime) {
-    let mut file = SlowWriter::new(rt.alloc(), UNLIMITED);
-    assert!(rt; write_rows(rt.alloc(), &mut file).is_ok());
-    for call in 0..file.taken.len() {
-        assert!(rt; is_begun(rt.alloc(), call, &file.taken), "call {call}");
-    }
+    assert!(rt; are_rows(&file));
 }
