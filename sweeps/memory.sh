@@ -37,8 +37,8 @@
 # them.
 #
 # The program itself runs `show`, without a types file and with one, `recording --whole --types`, `audit`, both of these
-# over copies, fragments and several files, `payload`, `vectors` and `run` so, and for objects `recording`, `audit` and
-# `run`. Each refused growth, also of the command line, comes to exit status 3, `out of memory` on standard error, and a
+# over copies, fragments and several files, `payload`, `encode`, `vectors`, `run`, alone and beside a trace, `chart`,
+# `explore`, `services`, `stats` and `extract` so, and for objects `recording`, `audit` and `run`. Each refused growth, also of the command line, comes to exit status 3, `out of memory` on standard error, and a
 # beginning of the expected text on standard output. Where one growth alone is refused, the program may go on, and then
 # nothing differs: it asks a second time, or an audit looks at all that a book holds from then on, in place of an index.
 # How many growths of a call are such stands with the call, so that an error of memory that nobody tells is found. The
@@ -184,6 +184,15 @@ sweep_memory() {
     sweep_program 1 recording --json --frames --endpoints --whole --types "$examples/types.toml" "$examples/route.pcap"
     sweep_program 9 audit --json --ports 30509 "$examples/route.pcap" "$examples/audit.pcap"
     sweep_program 16 run --json --lines "$examples/runs/two.toml" "$examples/runs/two.txt"
+    sweep_program 16 run --expect "$examples/runs/two.trace" "$examples/runs/two.toml" "$examples/runs/two.txt"
+    sweep_program 16 run --begins "$examples/runs/two.trace" "$examples/runs/two.toml" "$examples/runs/two.txt"
+    sweep_program 16 chart "$examples/runs/two.toml" "$examples/runs/two.txt"
+    sweep_program 17 explore --steps 1 --never 'a request' "$examples/runs/two.toml" \
+        "$examples/explore/early_answer.moves" 'b answer'
+    sweep_program 1 encode 'struct(speed:f32,gear:u8{0=P,3=D})' '(speed=20.5,gear=D)'
+    sweep_program 1 services "$examples/audit.pcap"
+    sweep_program 8 stats --ports 30509 "$examples/route.pcap" "$examples/audit.pcap"
+    sweep_program 1 extract "$examples/taps/two.pcapng"
     [ "$findings" -eq 0 ] || return 1
     echo "$part: $growths growths refused, $judged of them judged, no finding"
 }

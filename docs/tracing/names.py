@@ -129,7 +129,7 @@ class Touched:
         """Finds where proofs, sweeps, pages and tests spell the name."""
         word = re.compile(rf"(?<![\w]){re.escape(self.name)}(?![\w])")
         kinds = [("proofs that spell it", r"crates/[^/]*/proofs/.*\.antt$"), ("sweeps", r"sweeps/"), ("pages", r".*\.md$")]
-        kinds += [("tests", r"crates/(?:\w*_)?(?:tests|trials)(?:_\w*)?/src/.*\.rt$")]
+        kinds += [("tests", r"crates/(?:\w*_)?tests(?:_\w*)?/src/.*\.rt$")]
         for path in all_files():
             for group, pattern in kinds:
                 if re.match(pattern, path) and self.name in text(path):

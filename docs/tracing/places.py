@@ -37,7 +37,7 @@ def line_of(path, pattern):
 
 def is_test_crate(crate):
     """Whether a crate only tries others."""
-    return bool(re.search(r"(?:^|_)(?:tests|trials)(?:_|$)", crate))
+    return bool(re.search(r"(?:^|_)tests(?:_|$)", crate))
 
 
 def case_pattern(case):

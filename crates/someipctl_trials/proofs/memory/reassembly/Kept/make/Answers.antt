@@ -1,4 +1,0 @@
-use Rattle.someipctl_trials.proofs.memory.reassembly.Kept.make.Goals as goal
-
-pub invariant_of-result : goal.invariant_of-result
-invariant_of-result g c = record { timely = c.in_ok-store.ensures.moments 0 }
