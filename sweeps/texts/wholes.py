@@ -41,7 +41,15 @@ LAST_8 = ("1234042100000014000100010101200000000570" + "5b" * 8, MESSAGE.format(
           "segment offset 1392 more 0 bytes 8")
 LAST_9 = ("1234042100000015000100010101200000000570" + "5b" * 9, MESSAGE.format(21, "0001", "00000570" + "5b" * 9),
           "segment offset 1392 more 0 bytes 9")
+# Last ones that make a message 1048576 bytes long, and 1048577.
+LAST_16 = ("123404210000001c0001000101012000000ffff0" + "5c" * 16, MESSAGE.format(28, "0001", "000ffff0" + "5c" * 16),
+           "segment offset 1048560 more 0 bytes 16")
+LAST_17 = ("123404210000001d0001000101012000000ffff0" + "5c" * 17, MESSAGE.format(29, "0001", "000ffff0" + "5c" * 17),
+           "segment offset 1048560 more 0 bytes 17")
 WHOLE_1400 = WHOLE_LINE.format(1408, "0001", "5a" * 1392 + "5b" * 8)
+# First ones of 17 messages.
+FIRSTS = [(f"123404210000001c0001{session:04x}0101200000000001" + "5d" * 16,
+           MESSAGE.format(28, f"{session:04x}", "00000001" + "5d" * 16), AT_0) for session in range(1, 18)]
 # A segment without a TP header.
 HEADLESS = ("12340421000000080001000101012000", MESSAGE.format(8, "0001", "-"), "fault NoHeader at 16")
 # A request of another service, the last segment after it, and both segments, in one datagram each.
@@ -74,7 +82,8 @@ def hidden(time, ports, segment):
     return Datagram(time, ports, segment[0], None)
 
 
-# ---- Rows. Two messages are put together at a time, of 1400 bytes at most, each until a second after its last segment
+# ---- Rows. Two messages are put together at a time, of 1400 bytes at most, each until a second after its last segment;
+# with `--whole` alone sixteen, of 1048576 bytes, until five seconds after it
 
 TWO_SLOTS = "--whole --whole-limit 1400 --whole-slots 2 --whole-timeout 1000"
 ONE_SLOT = "--whole --whole-limit 1400 --whole-slots 1 --whole-timeout 1000"
@@ -139,6 +148,8 @@ REFUSED = (
          at(1_000_000, FORTH, LAST_LONG, WHOLE_LONG)]),
     Row([at(1_000_000, FORTH, FIRST_1392), at(1_000_000, FORTH, LAST_9, "dropped TooLong"),
          at(1_000_000, FORTH, LAST_8, WHOLE_1400)]),
+    Row([at(1_000_000, FORTH, LAST_16)], whole="--whole"),
+    Row([at(1_000_000, FORTH, LAST_17, "dropped TooLong")], whole="--whole"),
     Row([at(1_000_000, FORTH, FIRST), at(1_000_000, FORTH, FIRST_CHANGED, "dropped Conflict"),
          at(1_000_000, FORTH, LAST), at(1_000_000, FORTH, FIRST, WHOLE)]),
 )
@@ -148,6 +159,9 @@ CROWDED = (
     Row([at(1_000_000, FORTH, FIRST), at(1_000_000, FORTH, FIRST_2, "dropped NoSlot"),
          at(1_000_000, FORTH, LAST, WHOLE), at(1_000_000, FORTH, FIRST_2), at(1_000_000, FORTH, LAST_2, WHOLE_2)],
         whole=ONE_SLOT),
+    # Sixteen without `--whole-slots`.
+    Row([*(at(1_000_000, FORTH, first) for first in FIRSTS[:16]), at(1_000_000, FORTH, FIRSTS[16], "dropped NoSlot")],
+        whole="--whole"),
     # The slot of a part whose time is over is free.
     Row([at(1_000_000, FORTH, FIRST), at(2_000_000, FORTH, FIRST_2), at(2_000_000, FORTH, LAST_2, WHOLE_2)],
         whole=ONE_SLOT),

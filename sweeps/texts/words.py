@@ -106,7 +106,7 @@ NUMBERS = (
     ("stats", "--overtake-ms", "N", 0, 60000, STATS),
 )
 # Values of `--ports` that are none.
-BAD_PORTS = ("0", "65536", "1,,2", ",1", "1,", "01", "+1", " 1", "1 ", "x", "1;2", "99999999999999999999")
+BAD_PORTS = ("", "0", "65536", "1,,2", ",1", "1,", "01", "+1", " 1", "1 ", "x", "1;2", "99999999999999999999")
 # Options of lists, of a client and of times: the commands that take them, the option and its value's name, what its
 # values are, texts that are none, and some that are.
 LISTS = (
