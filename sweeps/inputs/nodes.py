@@ -22,7 +22,7 @@ import os
 import subprocess
 import sys
 import tempfile
-from typing import NamedTuple
+from typing import NamedTuple, Optional
 
 from changes import ACK, ANSWER, OFFER, Input, changes, read_vectors
 
@@ -66,7 +66,7 @@ class Past(NamedTuple):
 
     name: str
     steps: list
-    known: str | None
+    known: Optional[str]
     session: int
 
 

@@ -1,6 +1,6 @@
 """Recordings whose messages are put together from their segments: what `recording --whole` prints of each."""
 import struct
-from typing import NamedTuple
+from typing import NamedTuple, Optional
 
 # ---- Segments: the bytes, and the lines that are printed of them where nothing is put together
 
@@ -66,10 +66,10 @@ TO_DISCOVERY, FROM_DISCOVERY = (40000, 30490), (30490, 40000)
 class Datagram(NamedTuple):
     """A datagram, and the lines that are printed of it, if it is shown."""
 
-    time: int | None
+    time: Optional[int]
     ports: tuple
     hex: str
-    lines: tuple | None
+    lines: Optional[tuple]
 
 
 def at(time, ports, segment, *more):
