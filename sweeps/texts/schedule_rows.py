@@ -1,4 +1,63 @@
-"""Schedules with a bad line."""
+"""Schedules with a bad line, of one step, and of none."""
+
+# A setup whose one node is in no schedule.
+ELSEWHERE = """group = "239.0.0.1"
+[[node]]
+name = "q"
+address = "192.168.0.1"
+client_id = 1
+client_port = 1
+"""
+
+# Texts that each spell one step.
+STEPS = (
+    b"tick a 0",
+    b"tick abcdefghijklmno7 18446744073709551615",
+    b"deliver 0 a",
+    b"deliver 12 server",
+    b"call a 1234.0001 7fff -",
+    b"call a 1234.ffFF 0000 12fF",
+    b"oneway a 1234.0001 0001 aa*0",
+    b"oneway a 1234.0001 0001 aA*1048576",
+    b"answer a 0 00 -",
+    b"answer a 18446744073709551615 ff 00",
+    b"error a 1 00 -",
+    b"error a 1 fF 0102",
+    b"publish a 1234.0001 0000 -",
+    b"publish a 1234.0001 ffff 00*1",
+    b"publish_to a 1234.0001 0001 0.0.0.0:0 8001 -",
+    b"publish_to a 1234.0001 0001 255.255.255.255:65535 8001 0a",
+    b"subscribe a 1234.0001 0001",
+    b"unsubscribe a 1234.0001 ffff",
+    b"stop_offer 0 1234.0001",
+    b"restart a 0",
+    b"restart a 18446744073709551615",
+    b"tick a 5\n",
+    b"\n\ntick a 5\n\n",
+    b"#\n# a comment  \r\ntick a 5",
+    b"# \xc3\xa4\ntick a 5",
+    b"tick 0123456789abcdef 10",
+    b"call a ABCD.EF01 7FFF 0A",
+    b"call tick 0000.0000 0000 00",
+    b"deliver 18446744073709551615 z9",
+    b"answer a 10 0A -",
+    b"publish_to a 1234.0001 0001 10.0.0.200:30490 8001 ff*2",
+    b"subscribe subscribe ffff.ffff ffff",
+    b"restart restart 1",
+    b"inject a 1 0.0.0.0:0 -",
+    b"inject inject 65535 255.255.255.255:65535 aA*1048576",
+    b"#tick\ntick a 5\n#",
+)
+
+# Texts that spell no step, and have no bad line.
+NO_STEPS = (
+    b"",
+    b"\n",
+    b"\n\n",
+    b"#",
+    b"# tick a 5\n",
+    b"#\xc3\xa4\n\n#x",
+)
 
 # Texts whose first line is bad: words, and ticks.
 BAD = (

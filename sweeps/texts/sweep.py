@@ -24,7 +24,7 @@ from payloads import FAULTS, TAGGED_FAULTS, bad_shapes, deep_shapes
 from printed import fronts_of, printed_values
 from recordings import recordings
 from rules_files import rules
-from schedule_rows import schedules
+from schedule_rows import ELSEWHERE, NO_STEPS, STEPS, schedules
 from searches import searches
 from setups import setups
 from types_files import types
@@ -85,6 +85,19 @@ def is_rules(program, text, wanted):
 def is_schedule(program, data, bad_line):
     """A schedule is refused by its first bad line."""
     return said_of(program, data, ["run", str(SETUP)]) == (1, "", f"line {bad_line}: bad step\n")
+
+
+def is_step(program, data):
+    """A schedule is read as one step, which is at no node of the setup."""
+    with tempfile.NamedTemporaryFile("w") as setup:
+        setup.write(ELSEWHERE)
+        setup.flush()
+        return said_of(program, data, ["run", setup.name]) == (1, "", "step 1: UnknownNode\n")
+
+
+def is_no_step(program, data):
+    """A schedule is read as one without steps."""
+    return said_of(program, data, ["run", str(SETUP)]) == (0, "reuse clean\n", "")
 
 
 def is_search(program, setup, options, moves, goal, told):
@@ -166,6 +179,8 @@ PARTS = {
     "types file": (is_types, types()),
     "file of rules": (is_rules, rules()),
     "schedule": (is_schedule, schedules()),
+    "step": (is_step, [(text,) for text in STEPS]),
+    "no step": (is_no_step, [(text,) for text in NO_STEPS]),
     "search": (is_search, tuple(searches())),
     "shape": (is_bad_shape, bad_shapes()),
     "deep shape": (is_shape, [(text,) for text in deep_shapes()]),

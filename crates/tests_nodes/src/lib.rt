@@ -1,4 +1,4 @@
-//! Tests of nodes, of the node for other languages, of setups, of schedules and of runs, and of the program below its
+//! Tests of nodes, of the node for other languages and of runs, and of the program below its
 //! `main`: what its commands do, and how it ends.
 //!
 //! Tests stand over the crates that they try, since a crate is proved again with its tests. What is tried
@@ -9,9 +9,7 @@
 //!
 //! - `of_someip_node`: nodes, and two in one process;
 //! - `of_someip_c_node`: the node for other languages;
-//! - `of_someip_world_setup`, `of_someip_world_schedule`: what is read of setups and of schedules; those that are not quite
-//!   right are rows of the sweep `texts`, as are types files;
-//! - `of_someip_world`: short runs, and runs over both bodies of reassembly;
+//! - `of_someip_world`: runs over both bodies of reassembly;
 //! - `of_recording_writing`: packets that are written;
 //! - `of_someipctl`: calls that no command line makes.
 //!
@@ -26,10 +24,6 @@ mod of_someip_c_node;
 mod of_someip_node;
 #[cfg(test)]
 mod of_someip_world;
-#[cfg(test)]
-mod of_someip_world_schedule;
-#[cfg(test)]
-mod of_someip_world_setup;
 #[cfg(test)]
 mod of_someipctl;
 #[cfg(test)]

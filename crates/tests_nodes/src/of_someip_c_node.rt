@@ -1,8 +1,20 @@
-//! The node for other languages: its start by a text, two whose outputs are taken and carried by hand, its steps
-//! by lines, the setup of its log, and payloads as texts.
+//! The node for other languages. Two nodes that talk are `examples/c` and `python/tests`.
+//!
+//! - `starts`: which texts, names and delays start a node, and the setup of a log;
+//! - `outputs`: steps by lines, outputs that are taken one after the other, and endpoints;
+//! - `payloads`: payloads, as the texts of their values.
 
-mod carried;
-mod lines;
-mod logs;
+mod outputs;
 mod payloads;
 mod starts;
+
+use someip_c_node::Outcome;
+
+/// Whether a text was made, or refused, as it is wanted.
+fn is_text(made: Result<String, Outcome>, wanted: Result<&str, Outcome>) -> bool {
+    match (&made, wanted) {
+        (Ok(text), Ok(wanted)) => text.as_str() == wanted,
+        (Err(outcome), Err(wanted)) => *outcome == wanted,
+        _ => false,
+    }
+}

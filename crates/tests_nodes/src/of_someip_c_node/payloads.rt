@@ -1,7 +1,6 @@
 //! Payloads, as the texts of their values.
-
+use super::is_text;
 use someip_c_node::{Outcome, value_bytes, value_text};
-use std::alloc::Global;
 
 /// A shape, a payload and its value.
 const VALUES: &[(&[u8], &[u8], &str)] = &[
@@ -13,23 +12,6 @@ const VALUES: &[(&[u8], &[u8], &str)] = &[
     (b"u16le", &[1, 0], "1"),
     (b"fixed/8<2,u16>", &[4, 0, 1, 0, 2], "[1,2]"),
 ];
-
-/// Whether a payload has this value, and is that of the value's text.
-fn has_value(alloc: Global, shape: &[u8], payload: &[u8], value: &str) -> bool {
-    let told = match value_text(alloc, shape, payload) {
-        Ok(text) => text.as_str() == value,
-        Err(_) => false,
-    };
-    told && has_bytes(alloc, shape, payload, value)
-}
-
-/// Whether the value of a text has this payload.
-fn has_bytes(alloc: Global, shape: &[u8], payload: &[u8], value: &str) -> bool {
-    match value_bytes(alloc, shape, value.as_bytes()) {
-        Ok(bytes) => bytes.as_slice() == payload,
-        Err(_) => false,
-    }
-}
 
 /// A shape, a payload and a text of which neither is one of a value, and why.
 const FAULTS: &[(&[u8], &[u8], Outcome, &[u8], Outcome)] = &[
@@ -59,29 +41,28 @@ const FAULTS: &[(&[u8], &[u8], Outcome, &[u8], Outcome)] = &[
     (b"\xff", &[1], Outcome::NotText, b"1", Outcome::NotText),
 ];
 
-/// Whether a payload has no value, for this reason.
-fn has_no_value(alloc: Global, shape: &[u8], payload: &[u8], wanted: Outcome) -> bool {
-    match value_text(alloc, shape, payload) {
-        Ok(_) => false,
-        Err(outcome) => outcome == wanted,
-    }
-}
-
-/// Whether a text tells no value, for this reason.
-fn has_no_bytes(alloc: Global, shape: &[u8], text: &[u8], wanted: Outcome) -> bool {
-    match value_bytes(alloc, shape, text) {
-        Ok(_) => false,
-        Err(outcome) => outcome == wanted,
+/// Whether the payload of a text's value was made, or refused, as it is wanted.
+fn are_bytes(made: Result<Vec<u8>, Outcome>, wanted: Result<&[u8], Outcome>) -> bool {
+    match (&made, wanted) {
+        (Ok(bytes), Ok(wanted)) => bytes.as_slice() == wanted,
+        (Err(outcome), Err(wanted)) => *outcome == wanted,
+        _ => false,
     }
 }
 
 #[test]
 fn payloads_are_told(rt: HostRuntime) {
     for (shape, payload, value) in VALUES {
-        assert!(rt; has_value(rt.alloc(), shape, payload, value));
+        assert!(rt; is_text(value_text(rt.alloc(), shape, payload), Ok(*value)));
+        assert!(rt;
+            are_bytes(
+                value_bytes(rt.alloc(), shape, value.as_bytes()),
+                Ok(*payload)
+            )
+        );
     }
     for (shape, payload, wanted, text, of_text) in FAULTS {
-        assert!(rt; has_no_value(rt.alloc(), shape, payload, *wanted));
-        assert!(rt; has_no_bytes(rt.alloc(), shape, text, *of_text));
+        assert!(rt; is_text(value_text(rt.alloc(), shape, payload), Err(*wanted)));
+        assert!(rt; are_bytes(value_bytes(rt.alloc(), shape, text), Err(*of_text)));
     }
 }

@@ -29,27 +29,6 @@ impl Port {
     }
 }
 
-/// A text with a part that stands there so often.
-#[derive(Clone, Copy)]
-pub(crate) struct Repeats {
-    pub(crate) front: &'static str,
-    pub(crate) part: &'static str,
-    pub(crate) times: usize,
-    pub(crate) end: &'static str,
-}
-
-impl Repeats {
-    /// The whole text.
-    fn text(&self, alloc: Global) -> Result<String, AllocError> {
-        let mut text = String::from_str(alloc, self.front)?;
-        for _ in 0..self.times {
-            text.push_str(self.part)?;
-        }
-        text.push_str(self.end)?;
-        Ok(text)
-    }
-}
-
 /// What is done with a node: a call of it. Datagrams and payloads are in hex.
 #[derive(Clone, Copy)]
 pub(crate) enum Act {
@@ -59,11 +38,6 @@ pub(crate) enum Act {
     Tick(u64),
     /// It is asked in how many milliseconds a tick next gives something, and answers this.
     NextDue(Option<u64>),
-    /// A datagram comes so often from a port to a port, and gives one output each time.
-    Often(usize, Port, Port, &'static str),
-    /// A datagram with a part that is repeated comes from a port to a port: how many outputs it gives, and how
-    /// many of them are datagrams.
-    Repeated(Port, Port, Repeats, (usize, usize)),
     /// A method of an instance is called.
     Call(CallKind, InstanceId, u16, &'static str),
     /// The request under a token is answered.
@@ -105,7 +79,7 @@ impl Act {
         match self {
             Act::Datagram(from, to, _) => node.on_datagram(from.endpoint(), to.endpoint(), bytes),
             Act::Tick(ms) => node.tick(ms),
-            Act::NextDue(_) | Act::Often(..) | Act::Repeated(..) => Ok(Vec::new(alloc)),
+            Act::NextDue(_) => Ok(Vec::new(alloc)),
             Act::Call(kind, of, method, _) => node.call(kind, of, method, bytes),
             Act::Answer(token, reply, _) => node.answer(token, reply, bytes),
             Act::Publish(of, event, _) => node.publish(of, event, bytes),
@@ -158,11 +132,6 @@ pub(crate) fn comes_out(
 ) -> Option<bool> {
     match act {
         Act::NextDue(due) => Some(node.next_due() == due),
-        Act::Often(times, from, to, hex) => gives_one_each(alloc, node, times, from, to, hex),
-        Act::Repeated(from, to, repeats, counts) => {
-            let text = repeats.text(alloc).ok()?;
-            Some(counted(alloc, node, from, to, text.as_str())? == counts)
-        }
         _ => gives_lines(alloc, node, act, lines),
     }
 }
@@ -175,50 +144,6 @@ fn gives_lines(
 ) -> Option<bool> {
     let bytes = hex::decode(alloc, act.hex()).ok()?;
     Some(is_told(alloc, &act.outputs(alloc, node, &bytes), lines))
-}
-
-/// Whether a datagram gives one output each time that it comes.
-fn gives_one_each(
-    alloc: Global,
-    node: &mut Node<IntervalPool>,
-    times: usize,
-    from: Port,
-    to: Port,
-    hex: &str,
-) -> Option<bool> {
-    for _ in 0..times {
-        let (outputs, _) = counted(alloc, node, from, to, hex)?;
-        if outputs != 1 {
-            return Some(false);
-        }
-    }
-    Some(true)
-}
-
-/// How many outputs a datagram gives, and how many of them are datagrams.
-fn counted(
-    alloc: Global,
-    node: &mut Node<IntervalPool>,
-    from: Port,
-    to: Port,
-    hex: &str,
-) -> Option<(usize, usize)> {
-    let bytes = hex::decode(alloc, hex).ok()?;
-    let outputs = node
-        .on_datagram(from.endpoint(), to.endpoint(), &bytes)
-        .ok()?;
-    Some((outputs.len(), count_sent(&outputs)))
-}
-
-/// How many datagrams are among some outputs.
-fn count_sent(outputs: &[Output]) -> usize {
-    let mut count = 0usize;
-    for output in outputs {
-        if matches!(output, Output::Sent { .. }) {
-            count = count.saturating_add(1);
-        }
-    }
-    count
 }
 
 /// Whether an answer is told by these lines: those of the outputs, or the name of the refusal.

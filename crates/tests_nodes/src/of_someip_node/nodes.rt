@@ -53,27 +53,6 @@ oneways = [0x0422]
 events = [{ id = 0x8001, groups = [1] }]
 "#;
 
-/// The same with one slot for messages in part and one peer.
-pub(crate) const NARROW: &str = r#"
-group = "239.0.0.1"
-slots = 1
-peers = 1
-[[node]]
-name = "a"
-address = "192.168.0.1"
-client_id = 0x0101
-client_port = 40000
-[[node.offer]]
-service = 0x1111
-instance = 1
-major = 1
-ttl = 3
-port = 30509
-methods = [0x0421]
-oneways = [0x0422]
-events = [{ id = 0x8001, groups = [1] }]
-"#;
-
 /// The same with a second instance, at the port 30510.
 pub(crate) const OFFERS_TWO: &str = r#"
 group = "239.0.0.1"
@@ -100,37 +79,6 @@ port = 30510
 methods = [0x0421]
 oneways = [0x0422]
 events = [{ id = 0x8001, groups = [1] }]
-"#;
-
-/// The same, which wants two instances of another service too.
-pub(crate) const OFFERS_AND_WANTS: &str = r#"
-group = "239.0.0.1"
-[[node]]
-name = "a"
-address = "192.168.0.1"
-client_id = 0x0101
-client_port = 40000
-[[node.offer]]
-service = 0x1111
-instance = 1
-major = 1
-ttl = 3
-port = 30509
-methods = [0x0421]
-oneways = [0x0422]
-events = [{ id = 0x8001, groups = [1] }]
-[[node.want]]
-service = 0x2222
-instance = 1
-major = 1
-ttl = 3
-groups = [{ id = 1, events = [] }]
-[[node.want]]
-service = 0x2222
-instance = 2
-major = 1
-ttl = 3
-groups = [{ id = 1, events = [] }]
 "#;
 
 /// The node 192.168.0.2, which wants the instance, and the event 8001 as one of the eventgroup 0001.

@@ -1,12 +1,15 @@
 //! When a tick next gives something.
 use super::acts::Act::{Call, Datagram, NextDue, Tick};
 use super::acts::Row;
-use super::moments::LASTING;
-use super::nodes::{INSTANCE, OFFERS, SD_OF_ALL, SD_OF_SERVER, WANTS, gives};
+use super::nodes::{INSTANCE, SD_OF_ALL, SD_OF_SERVER};
 use someip_rpc::CallKind;
 
+/// An Offer of the instance until the next reboot.
+const LASTING: &str =
+    "ffff8100000000300000000101010200c000000000000010010000101111000101ffffff000000000000000c00090400c0a800010011772d";
+
 /// Offers go out at 10 and 40, and then at 100.
-const OF_OFFERS: &[Row] = &[
+pub(crate) const OF_OFFERS: &[Row] = &[
     (NextDue(Some(10)), ""),
     (Tick(9), ""),
     (NextDue(Some(1)), ""),
@@ -23,7 +26,7 @@ const OF_OFFERS: &[Row] = &[
 ];
 
 /// A Find is due until an offer is known, that offer lasts, and so a call that waits is due alone.
-const OF_A_CALL: &[Row] = &[
+pub(crate) const OF_A_CALL: &[Row] = &[
     (NextDue(Some(10)), ""),
     (
         Datagram(SD_OF_SERVER, SD_OF_ALL, LASTING),
@@ -42,7 +45,7 @@ const OF_A_CALL: &[Row] = &[
 ];
 
 /// At the last moment of the clock the next Offer lies past it.
-const AT_THE_END: &[Row] = &[
+pub(crate) const AT_THE_END: &[Row] = &[
     (
         Tick(9223372036854775807),
         "sent 192.168.0.1:30490 239.0.0.1:30490 ffff8100000000300000000101010200c000000000000010010000101111000101000003000000000000000c00090400c0a800010011772d\n",
@@ -50,10 +53,3 @@ const AT_THE_END: &[Row] = &[
     (NextDue(None), ""),
     (Tick(1), "refused ClockPast\n"),
 ];
-
-#[test]
-fn a_tick_is_due(rt: HostRuntime) {
-    assert!(rt; gives(rt.alloc(), OFFERS, OF_OFFERS));
-    assert!(rt; gives(rt.alloc(), WANTS, OF_A_CALL));
-    assert!(rt; gives(rt.alloc(), OFFERS, AT_THE_END));
-}

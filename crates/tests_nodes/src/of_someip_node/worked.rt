@@ -1,10 +1,9 @@
-//! The worked run: two nodes, a call, a subscription and an event.
-use super::acts::Act::{Answer, Call, Datagram, Publish, Subscribe, Tick, Unsubscribe};
-use super::acts::{Port, Row};
-use super::nodes::{
-    CLIENT, EVENTGROUP, INSTANCE, OFFERS, SD_OF_ALL, SD_OF_CLIENT, SD_OF_SERVER, SERVER, WANTS,
-    gives,
+//! Each call of a node: the worked run of two nodes, with a call, a subscription and an event, and what comes after it.
+use super::acts::Act::{
+    Answer, Call, Datagram, Publish, PublishTo, Restart, StopOffer, Subscribe, Tick, Unsubscribe,
 };
+use super::acts::{Port, Row};
+use super::nodes::{CLIENT, EVENTGROUP, INSTANCE, SD_OF_ALL, SD_OF_CLIENT, SD_OF_SERVER, SERVER};
 use sd_core::Eventgroup;
 use someip_rpc::{CallKind, Reply};
 use someip_wire::ReturnCode;
@@ -27,8 +26,9 @@ const UNWANTED: Eventgroup = Eventgroup {
     id: 2,
 };
 
-/// The run at the node that offers; an event is published once more, before the Subscribe comes.
-const AT_SERVER: &[Row] = &[
+/// The run at the node that offers; an event is published once more, before the Subscribe comes. Then one goes to the
+/// client alone, its request is answered no more, and the offer is stopped.
+pub(crate) const AT_SERVER: &[Row] = &[
     (
         Tick(10),
         "sent 192.168.0.1:30490 239.0.0.1:30490 ffff8100000000300000000101010200c000000000000010010000101111000101000003000000000000000c00090400c0a800010011772d\n",
@@ -50,10 +50,24 @@ const AT_SERVER: &[Row] = &[
         Publish(INSTANCE, 0x8001, "2a"),
         "sent 192.168.0.1:30509 192.168.0.2:40001 111180010000000900000002010102002a\n",
     ),
+    (
+        PublishTo(EVENTGROUP, CLIENT, 0x8001, "02"),
+        "sent 192.168.0.1:30509 192.168.0.2:40001 1111800100000009000000030101020002\n",
+    ),
+    (
+        Answer(1, Reply::Response(ReturnCode(0)), ""),
+        "refused UnknownToken\n",
+    ),
+    (
+        StopOffer(INSTANCE),
+        "sent 192.168.0.1:30490 239.0.0.1:30490 ffff8100000000300000000201010200c000000000000010010000101111000101000000000000000000000c00090400c0a800010011772d\n",
+    ),
+    (Publish(INSTANCE, 0x8001, ""), "refused NotOffered\n"),
+    (Restart(10), ""),
 ];
 
 /// The run at the node that wants, and the end of its subscription.
-const AT_CLIENT: &[Row] = &[
+pub(crate) const AT_CLIENT: &[Row] = &[
     (
         Datagram(SD_OF_SERVER, SD_OF_ALL, OFFER),
         "known 1111.0001 192.168.0.1:30509\n",
@@ -102,8 +116,10 @@ const AT_CLIENT: &[Row] = &[
     ),
 ];
 
-#[test]
-fn the_worked_run(rt: HostRuntime) {
-    assert!(rt; gives(rt.alloc(), OFFERS, AT_SERVER));
-    assert!(rt; gives(rt.alloc(), WANTS, AT_CLIENT));
-}
+/// Datagrams that the node sent, or that were sent to no port of it.
+pub(crate) const ASTRAY: &[Row] = &[
+    (Datagram(SD_OF_SERVER, SD_OF_SERVER, ""), "dropped Own\n"),
+    (Datagram(CLIENT, Port(1, 30510), ""), "dropped NoPort\n"),
+    (Datagram(CLIENT, Port(3, 30509), ""), "dropped NoPort\n"),
+    (Datagram(CLIENT, Port(0, 40001), ""), "dropped NoPort\n"),
+];

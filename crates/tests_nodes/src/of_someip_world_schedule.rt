@@ -1,3 +1,0 @@
-//! What is read of schedules.
-
-mod schedule;

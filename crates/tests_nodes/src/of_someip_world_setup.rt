@@ -1,3 +1,0 @@
-//! What is read of setups.
-
-pub(crate) mod setup;
