@@ -2,9 +2,9 @@
 
     sweep.py PROGRAM
 
-Each folder has a setup: one node, and liars, who send it any bytes from any ports of their addresses. Each schedule has
-its trace beside it, byte for byte. Runs that would be long as texts are made here: so many requests and calls that one
-more has no place, and the longest datagram of a liar.
+Each folder has a setup: one node, and liars, who send it any bytes from any ports of their addresses. That of the folder
+`two` is the one of two nodes in examples/runs. Each schedule has its trace beside it, byte for byte. Runs that would be
+long as texts are made here: so many requests and calls that one more has no place, and the longest datagram of a liar.
 """
 import concurrent.futures
 import os
@@ -62,8 +62,8 @@ def said_of(program, setup, schedule):
 
 def is_run(program, schedule):
     """A schedule of a folder has the trace beside it."""
-    trace = schedule.with_suffix(".trace").read_text()
-    return said_of(program, schedule.with_name("setup.toml"), schedule) == (0, trace, "")
+    setup = TWO if schedule.parent.name == "two" else schedule.with_name("setup.toml")
+    return said_of(program, setup, schedule) == (0, schedule.with_suffix(".trace").read_text(), "")
 
 
 def is_long_run(program, make):

@@ -1,9 +1,7 @@
 -- The worked run and other examples, by computation.
-pub mod ExampleLemmas
 pub mod LimitExampleLemmas
 pub mod OneEntryLemmas
 pub mod StepLemmas
-pub mod CallExampleLemmas
 pub mod ServerRun
 pub mod ServerEvents
 pub mod ClientRun

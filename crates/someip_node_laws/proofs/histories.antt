@@ -4,3 +4,4 @@ pub mod TimeLemmas
 pub mod LiveLemmas
 pub mod WaitLemmas
 pub mod UpLemmas
+pub mod DroppedAnswers

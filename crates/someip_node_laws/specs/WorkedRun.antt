@@ -9,13 +9,12 @@ use Rattle.sd_core.specs.declared.subscription.Subscription.{Subscription}
 use Rattle.someip_rpc.specs.declared.call.CallKind.TheVariants.{Request}
 use Rattle.someip_rpc.specs.declared.ids.MessageId.{MessageId}
 use Rattle.someip_rpc.specs.declared.request.Asked.{Asked}
-use Rattle.someip_rpc.specs.declared.request.Reply.TheVariants.{Response}
 use Rattle.someip_node_rules.specs.declared.config.Config.{Config}
 use Rattle.someip_node_rules.specs.declared.output.Output.{Output}
 use Rattle.someip_node_rules.specs.declared.output.Output.TheVariants.{Sent}
 use Rattle.someip_node_laws.specs.CallExamples.{IsClient, instance_offer}
 use Rattle.someip_node_rules.specs.histories.History.{History}
-use Rattle.someip_node_rules.specs.rules.Inputs.{Input, Answer, Call as CallInput, Datagram, Publish, Subscribe, Tick}
+use Rattle.someip_node_rules.specs.rules.Inputs.{Input, Datagram}
 use Rattle.someip_node_rules.specs.histories.Items.{Item, AckCame, AnswerTaken, Answered, Called, GroupAddressed, OfferCounted, PeerAddressed, PeerHeard, Published, Requested, SubscriptionAccepted, Ticked, Wished}
 use Rattle.someip_node_rules.specs.trails.Packets.{Packet}
 use Rattle.someip_node_rules.specs.steps.Steps.{step}
@@ -175,13 +174,6 @@ subscribed_items =
     ∷ PeerHeard server_address Unicast first ∷ wished_items
 
 -- ---- steps
-
--- what the server takes in the run, and what the client does, the newest first
-abbrev pub server_inputs : List Input
-server_inputs = Publish instance 0x8001 (0x2a ∷ []) ∷ comes subscribe_packet ∷ Answer 1 (Response (record { 0 = 0 })) (3 ∷ []) ∷ comes call_packet ∷ Tick 10 ∷ []
-
-abbrev pub client_inputs : List Input
-client_inputs = comes event_packet ∷ comes (ack_packet 0) ∷ Subscribe eventgroup ∷ comes answer_packet ∷ CallInput Request instance 0x0421 (1 ∷ 2 ∷ []) ∷ comes (offer_packet 3) ∷ []
 
 -- a node met these items since its start, with a delay of 10 milliseconds before its first Offers and Finds
 abbrev pub having_met : Config → List Item → History

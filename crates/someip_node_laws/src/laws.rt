@@ -26,7 +26,7 @@ ghost use Rattle.someip_node_rules.specs.histories.History.{History, answers_of,
 ghost use Rattle.someip_node_laws.specs.HistoryExamples.{ack_of, acked_after, begun_with, offering_endpoint, wished_eventgroup, offer_for, other_peer, offering_peer, subscribing_with, waiting_with};
 ghost use Rattle.someip_node_rules.specs.histories.Items.{Item, AckCame, AnswerTaken, Called, NackCame, OfferCounted, OfferStopped, OfferWithdrawn, PeerRebooted, SubscriptionAccepted, SubscriptionStopped, Ticked, changed};
 ghost use Rattle.someip_node_rules.specs.steps.Lives.{has_its_offer, is_offer_known, is_live, is_waiting, was_stopped};
-ghost use Rattle.someip_node_rules.specs.rules.Plans.{Plan, Work, plain, run};
+ghost use Rattle.someip_node_rules.specs.rules.Plans.{Plan, Work, plain, run, rule, TakesAnswer};
 ghost use Rattle.someip_node_rules.specs.histories.Questions.{clock_at};
 ghost use Rattle.someip_node_rules.specs.histories.SeekQuestions.{known_offer_at};
 ghost use Rattle.someip_node_rules.specs.forms.Setups.{offered_as};
@@ -34,6 +34,12 @@ ghost use Rattle.someip_node_rules.specs.histories.Starts.{started_tables};
 ghost use Rattle.someip_node_rules.specs.histories.SubscriberQuestions.{subscribed_at};
 ghost use Rattle.someip_node_rules.specs.histories.Tables.{is_up, stamp_for};
 ghost use Rattle.someip_node_rules.specs.histories.WishQuestions.{course_at, is_wished_at, wish_at};
+ghost use Rattle.someip_wire.specs.declared.header.Header.{Header};
+ghost use Rattle.someip_wire.specs.declared.header.MessageType.TheVariants.{Response};
+ghost use Rattle.someip_rpc.specs.declared.error.DropCause.TheVariants.{NotPending};
+ghost use Rattle.someip_rpc.specs.Answers.{answered_call};
+ghost use Rattle.someip_node_rules.specs.rules.Outcomes.{dropped};
+ghost use Rattle.someip_node_rules.specs.declared.drops.DropReason.TheVariants as drop_reason;
 
 /// The tables of a node are the answers to what it met: those of a start are the tables of a start,
 /// and an item changes the answers as it changes tables.
@@ -171,4 +177,12 @@ pub fn subscriptions_stand_with_their_offer()
         (known_offer_at items eventgroup.instance)) }
     ensures wished { (items : List Item) (eventgroup : Eventgroup)
         → IsFalse (is_wished_at items eventgroup) → (course_at items eventgroup).beginning ≡ None }
+{}
+
+/// The answer to a call that waits no longer is dropped as one that no call waits for.
+pub fn late_answers_are_dropped()
+    ensures { (h : History) (from : SocketAddrV4) (header : Header) (payload : List ℕ)
+        → header.kind ≡ Response → IsFalse (is_waiting h.config h.items (answered_call header))
+        → rule (TakesAnswer from header payload) (answers_of h)
+        ≡ dropped (drop_reason.Answer NotPending) }
 {}

@@ -6,14 +6,11 @@
 //! - [`given_laws`]: by which rule something was given, and what of the input the rule was about;
 //! - [`limit_laws`], [`subscriber_laws`], [`fit_laws`]: how much a node holds, and that the numbers that it
 //!   sends fit their fields;
-//! - [`example_laws`], [`call_example_laws`], [`run_example_laws`]: worked steps and a worked run of two
-//!   nodes, computed from the definitions.
+//! - [`run_example_laws`]: what came, and what was replied, in a worked run of two nodes.
 //!
 //! The definitions that these laws alone need stand in `specs/`.
 #![tactic(auto)]
 
-pub mod call_example_laws;
-pub mod example_laws;
 pub mod fit_laws;
 pub mod given_laws;
 pub mod laws;

@@ -1,5 +1,5 @@
 -- The client's half of the worked run from its wish on, by computation.
-use Rattle.std.proofs.Common.{◌≡◌, ℕ, ◌==◌, ◌&&◌, ◌||◌, nat_lt, Bool, true, false, if◌then◌else◌, List, [], ◌∷◌, None, Some, Ok, Err, refl, ap, find, ◌∙◌}
+use Rattle.std.proofs.Common.{◌≡◌, ℕ, ◌==◌, ◌&&◌, ◌||◌, nat_lt, Bool, true, false, if◌then◌else◌, List, [], ◌∷◌, None, Some, Ok, refl, ap, find, ◌∙◌}
 use Rattle.std.specs.Option.{is_some, option_map, option_map_or}
 use Rattle.std.specs.List.{list_any}
 use Rattle.std.specs.BTreeSet.{BTreeSet}
@@ -28,12 +28,10 @@ use Rattle.sd_core.specs.Eventgroups.{eventgroup_cmp}
 use Rattle.sd_core.specs.KeyOrder.{instances_total}
 use Rattle.sd_core.specs.SeekTables.{known_at}
 use Rattle.sd_core.specs.Wishes.{is_subscribed, sent_at_once, told_by_ack, wish_of}
-use Rattle.someip_rpc.specs.declared.call.CallKind.TheVariants.{Request}
-use Rattle.someip_node_rules.specs.steps.Advances.{after_inputs}
 use Rattle.someip_node_rules.specs.rules.ClientSubscribing.{wish_entries, wish_entries_by, wishes}
 use Rattle.someip_node_rules.specs.rules.Handling.{heard_plan, target_plan}
-use Rattle.someip_node_rules.specs.histories.History.{History, answers_of, historic}
-use Rattle.someip_node_rules.specs.rules.Inputs.{Input, Call, Datagram, Subscribe, peer_plan, subscribe_plan}
+use Rattle.someip_node_rules.specs.histories.History.{answers_of, historic}
+use Rattle.someip_node_rules.specs.rules.Inputs.{Datagram, Subscribe, peer_plan, subscribe_plan}
 use Rattle.someip_node_rules.specs.histories.Items.{Item, AckCame, PeerHeard}
 use Rattle.someip_node_rules.specs.rules.Learning.{ack_by, ack_told, answer_in}
 use Rattle.someip_node_rules.specs.rules.Messages.{event_by, is_event_of, is_subscribed_by, takes_event}
@@ -43,16 +41,15 @@ use Rattle.someip_node_rules.specs.forms.Setups.{discovery_endpoint, is_wanted_e
 use Rattle.someip_node_rules.specs.steps.Steps.{unless_refused, work_on}
 use Rattle.someip_node_rules.specs.histories.Tables.{Tables, known_endpoint, known_peer}
 use Rattle.someip_node_rules.specs.histories.WishQuestions.{wish_at}
-use Rattle.someip_node_laws.specs.WorkedExamples.{client, discovery_at, gives, instance, server, server_address}
-use Rattle.someip_node_laws.specs.WorkedRun.{LeadsTo, WantsEvent, ack_bytes, ack_packet, having_met, answer_packet, called_items, client_inputs, comes, event_bytes, event_packet, eventgroup, known_items, offer_packet, replied_items, subscribe_bytes, subscribed_items, wished_items}
+use Rattle.someip_node_laws.specs.WorkedExamples.{client, discovery_at, instance, server, server_address}
+use Rattle.someip_node_laws.specs.WorkedRun.{LeadsTo, WantsEvent, ack_bytes, having_met, event_bytes, eventgroup, replied_items, subscribe_bytes, subscribed_items, wished_items}
 use Rattle.someip_node_rules.specs.declared.config.Config.{Config}
 use Rattle.someip_node_rules.specs.declared.config.WantedService.{WantedService}
-use Rattle.someip_node_rules.specs.declared.drops.DropReason.TheVariants.{NotPending, NotSubscribed}
 use Rattle.someip_node_rules.specs.declared.error.NodeError.TheVariants.{NotWanted}
-use Rattle.someip_node_rules.specs.declared.output.Output.TheVariants.{Dropped, Event, Sent, Subscribed}
+use Rattle.someip_node_rules.specs.declared.output.Output.TheVariants.{Event, Sent, Subscribed}
 use Rattle.someip_node_rules.specs.declared.target.Target.TheVariants as target
-use Rattle.someip_node_laws.proofs.examples.ClientRun.{answer_taken, both_flags, call_goes, known_as, offer_learned, subscribe_out, subscribe_written, to_client}
-use Rattle.someip_node_laws.proofs.examples.StepLemmas.{joins, no_reply, one_entry, one_message, sent_to_peer, work_after}
+use Rattle.someip_node_laws.proofs.examples.ClientRun.{both_flags, known_as, subscribe_out, subscribe_written, to_client}
+use Rattle.someip_node_laws.proofs.examples.StepLemmas.{no_reply, one_entry, one_message, sent_to_peer, work_after}
 
 -- what is read of the Ack
 abbrev ack_head : ℕ → EventgroupEntry
@@ -65,11 +62,6 @@ reads_ack : target_plan (target.Discovery Unicast) (discovery_at server_address)
     ≡ both (heard_plan server_address Unicast 1 (record { flags = both_flags; entries = ack_read 0 ∷ [] })) rest
 unfolding items_within options_within
 reads_ack = refl
-
-reads_other_ack : target_plan (target.Discovery Unicast) (discovery_at server_address) (discovery_at client.ip) (ack_bytes 1)
-    ≡ both (heard_plan server_address Unicast 1 (record { flags = both_flags; entries = ack_read 1 ∷ [] })) rest
-unfolding items_within options_within
-reads_other_ack = refl
 
 -- what is read of the event
 abbrev event_header : Header
@@ -109,9 +101,6 @@ module _ (config : Config) (is : WantsEvent config) where
         replies = [];
       })) subscribe_written
       ∙ rw is.client.address refl
-
-  pub other_not_wanted : gives (having_met config replied_items) (Subscribe (record eventgroup { id = 2 })) ≡ Err NotWanted
-  other_not_wanted = rw (is.client.wants, is.groups) refl
 
   -- ---- the Ack comes
 
@@ -155,13 +144,6 @@ module _ (config : Config) (is : WantsEvent config) where
       reads_ack room same refl (takes_ack 0)
       ∙ ap Ok (no_reply (work_after (having_met config acked_items) (meets (AckCame (acknowledges 0) 3 ∷ []) (Subscribed eventgroup 0 ∷ []))) server_address)
 
-  pub other_ack_dropped : LeadsTo (having_met config wished_items) (Datagram (discovery_at server_address) (discovery_at client.ip) (ack_bytes 1)) (Dropped NotPending ∷ []) (AckCame (acknowledges 1) 3 ∷ acked_items)
-  other_ack_dropped =
-      one_entry (having_met config wished_items) (discovery_at server_address) (discovery_at client.ip) (ack_bytes 1) (target.Discovery Unicast)
-      (rw is.client.address refl) (rw is.client.address refl) Unicast 1 both_flags (ack_read 1) (TakesAck server_address (ack_head 1)) (meets (AckCame (acknowledges 1) 3 ∷ []) (Dropped NotPending ∷ []))
-      reads_other_ack room same refl (takes_ack 1)
-      ∙ ap Ok (no_reply (work_after (having_met config acked_items) (meets (AckCame (acknowledges 1) 3 ∷ []) (Dropped NotPending ∷ []))) server_address)
-
   -- ---- the event comes
 
   -- what becomes of it, by whether the instance publishes it to this client
@@ -190,48 +172,3 @@ module _ (config : Config) (is : WantsEvent config) where
       (TakesEvent server event_header (0x2a ∷ [])) (meets [] (Event instance 0x8001 (0x2a ∷ []) ∷ [])) reads_event
       (taken subscribed_items (wish_at subscribed_items eventgroup) (ap (λ v. option_map (λ k. k.endpoint) (known_at 0 v)) (get-from_entries instances_total (known_as config is) instance))
       (get-from_entries eventgroups_total ((eventgroup, wish_at subscribed_items eventgroup) ∷ []) eventgroup))
-
-  pub event_dropped : LeadsTo (having_met config wished_items) (Datagram server client event_bytes) (Dropped NotSubscribed ∷ []) wished_items
-  event_dropped =
-      one_message (having_met config wished_items) server client event_bytes target.Client (rw is.client.address refl) (to_client config is)
-      (TakesEvent server event_header (0x2a ∷ [])) (meets [] (Dropped NotSubscribed ∷ [])) reads_event
-      (taken wished_items (wish_at wished_items eventgroup) (ap (λ v. option_map (λ k. k.endpoint) (known_at 0 v)) (get-from_entries instances_total (known_as config is) instance))
-      (get-from_entries eventgroups_total ((eventgroup, wish_at wished_items eventgroup) ∷ []) eventgroup))
-
-  -- ---- from the start on
-
-  abbrev start : History
-  start = having_met config []
-
-  abbrev inputs1 : List Input
-  inputs1 = comes (offer_packet 3) ∷ []
-
-  abbrev inputs2 : List Input
-  inputs2 = Call Request instance 0x0421 (1 ∷ 2 ∷ []) ∷ inputs1
-
-  abbrev inputs3 : List Input
-  inputs3 = comes answer_packet ∷ inputs2
-
-  abbrev inputs4 : List Input
-  inputs4 = Subscribe eventgroup ∷ inputs3
-
-  abbrev inputs5 : List Input
-  inputs5 = comes (ack_packet 0) ∷ inputs4
-
-  after1 : after_inputs start inputs1 ≡ having_met config known_items
-  after1 = joins start (having_met config []) [] (comes (offer_packet 3)) _ _ refl (offer_learned config is)
-
-  after2 : after_inputs start inputs2 ≡ having_met config called_items
-  after2 = joins start (having_met config known_items) inputs1 (Call Request instance 0x0421 (1 ∷ 2 ∷ [])) _ _ after1 (call_goes config is)
-
-  after3 : after_inputs start inputs3 ≡ having_met config replied_items
-  after3 = joins start (having_met config called_items) inputs2 (comes answer_packet) _ _ after2 (answer_taken config is)
-
-  after4 : after_inputs start inputs4 ≡ having_met config wished_items
-  after4 = joins start (having_met config replied_items) inputs3 (Subscribe eventgroup) _ _ after3 subscribe_goes
-
-  after5 : after_inputs start inputs5 ≡ having_met config subscribed_items
-  after5 = joins start (having_met config wished_items) inputs4 (comes (ack_packet 0)) _ _ after4 ack_taken
-
-  pub client_joins : after_inputs start client_inputs ≡ having_met config subscribed_items
-  client_joins = joins start (having_met config subscribed_items) inputs5 (comes event_packet) _ _ after5 event_taken

@@ -1,7 +1,7 @@
 -- The client's half of the worked run, by computation.
-use Rattle.std.proofs.Common.{◌≡◌, ℕ, ◌&&◌, true, false, if◌then◌else◌, List, [], ◌∷◌, map, Option, None, Some, Ok, refl, ap, arith, ◌∙◌}
+use Rattle.std.proofs.Common.{◌≡◌, ℕ, true, if◌then◌else◌, List, [], ◌∷◌, map, Option, None, Some, Ok, refl, ap, arith, ◌∙◌}
 use Rattle.std.specs.List.{filter_map, flat_map}
-use Rattle.std.specs.Option.{option_map, option_map_or}
+use Rattle.std.specs.Option.{option_map}
 use Rattle.std.specs.FinMap.{empty, get, get-empty, get-from_entries}
 use Rattle.someip_wire.specs.Reading.{items_within}
 use Rattle.someip_wire.specs.Spelling.{spelling}
@@ -19,7 +19,7 @@ use Rattle.sd_core.specs.declared.wish.Wish.{Wish}
 use Rattle.sd_core.specs.EventgroupOrder.{eventgroups_total, exact_eventgroups}
 use Rattle.sd_core.specs.KeyOrder.{instances_total}
 use Rattle.sd_core.specs.Keys.{instance_cmp}
-use Rattle.sd_core.specs.SeekTables.{counted_as, known_at, is_wanted, offer_refusal, stands_by}
+use Rattle.sd_core.specs.SeekTables.{counted_as, known_at, offer_refusal}
 use Rattle.sd_core.specs.Wishes.{subscribe_of}
 use Rattle.sd_core.specs.WishTables.{subscribes}
 use Rattle.someip_wire.specs.declared.header.Header.{Header}
@@ -42,26 +42,25 @@ use Rattle.someip_node_rules.specs.histories.CallQuestions.{awaited_at}
 use Rattle.someip_node_rules.specs.rules.Messages.{answer_by}
 use Rattle.someip_node_rules.specs.histories.Questions.{clock_at}
 use Rattle.someip_node_rules.specs.histories.SeekQuestions.{offer_from}
-use Rattle.someip_node_rules.specs.declared.drops.DropReason.TheVariants.{Answer as AnswerDrop}
 use Rattle.someip_node_laws.proofs.histories.NamedLemmas.{get-pending}
 use Rattle.someip_node_laws.specs.CallExamples.{instance_offer}
 use Rattle.someip_node_rules.specs.forms.Entries.{discovery_message, subscribe_entry, udp_option}
 use Rattle.someip_node_rules.specs.rules.Handling.{heard_plan, target_of, target_plan}
 use Rattle.someip_node_rules.specs.histories.History.{answers_of}
 use Rattle.someip_node_rules.specs.rules.Inputs.{Call, Datagram}
-use Rattle.someip_node_rules.specs.histories.Items.{Item, OfferCounted, OfferWithdrawn, PeerAddressed, PeerHeard, Wished}
-use Rattle.someip_node_rules.specs.rules.Learning.{known_told, offer_by, offer_counts, offer_endings, subscribe_to}
-use Rattle.someip_node_rules.specs.rules.Outcomes.{Outcome, meets, nothing}
+use Rattle.someip_node_rules.specs.histories.Items.{Item, OfferCounted, PeerHeard}
+use Rattle.someip_node_rules.specs.rules.Learning.{known_told, offer_by, offer_counts, subscribe_to}
+use Rattle.someip_node_rules.specs.rules.Outcomes.{Outcome}
 use Rattle.someip_node_rules.specs.forms.Outputs.{Tells}
-use Rattle.someip_node_rules.specs.rules.Plans.{act, both, rest, rule, TakesAnswer, TakesOffer, TakesStopOffer}
+use Rattle.someip_node_rules.specs.rules.Plans.{act, both, rest, rule, TakesAnswer, TakesOffer}
 use Rattle.someip_node_rules.specs.histories.Tables.{Tables, known_endpoint, waiting_calls}
 use Rattle.someip_node_laws.specs.WorkedExamples.{client, discovery_at, instance, server, server_address}
 use Rattle.someip_node_laws.specs.WorkedRun.{LeadsTo, WantsEvent, having_met, answer_bytes, call_bytes, called_items, eventgroup, group_address, known_items, method, offer_bytes, replied_items, subscribe_bytes}
 use Rattle.someip_node_rules.specs.declared.config.Config.{Config}
-use Rattle.someip_node_rules.specs.declared.output.Output.TheVariants.{Answered as AnsweredOutput, Called as CallOutput, Dropped, Known, Sent}
+use Rattle.someip_node_rules.specs.declared.output.Output.TheVariants.{Answered as AnsweredOutput, Called as CallOutput, Known, Sent}
 use Rattle.someip_node_rules.specs.declared.target.Target.TheVariants as target
-use Rattle.someip_node_laws.proofs.examples.OneEntryLemmas.{entries_of_none, entries_of_one}
-use Rattle.someip_node_laws.proofs.examples.StepLemmas.{first_call, has_room, is_new, no_reply, one_entry, one_message, reply_goes, work_after}
+use Rattle.someip_node_laws.proofs.examples.OneEntryLemmas.{entries_of_none}
+use Rattle.someip_node_laws.proofs.examples.StepLemmas.{first_call, has_room, is_new, no_reply, one_entry, one_message, work_after}
 
 -- the call of the method 0421 with one byte
 abbrev pub calling_with : ℕ → List ℕ
@@ -86,11 +85,6 @@ reads_offer : target_plan (target.Discovery Multicast) (discovery_at server_addr
 unfolding items_within options_within
 reads_offer = refl
 
-reads_stop : target_plan (target.Discovery Multicast) (discovery_at server_address) (discovery_at group_address) (offer_bytes 0)
-    ≡ both (heard_plan server_address Multicast 1 (record { flags = both_flags; entries = offer_read 0 ∷ [] })) rest
-unfolding items_within options_within
-reads_stop = refl
-
 -- the Subscribe that goes out
 abbrev pub subscribe_out : EntryValue
 subscribe_out = subscribe_entry client 1 3 eventgroup 0
@@ -110,15 +104,6 @@ takes_offer t replies wants unknown said =
     ∙ ap (λ v. offer_by instance_offer (offer_refusal (Some 1) (known_at t.clock v) instance_offer) t) unknown
     ∙ ap (λ v. record (offer_counts instance_offer server t) { given = map Tells (known_told instance server (counted_as server (known_at t.clock v))) }) unknown
     ∙ ap learned said
-
--- a StopOffer does nothing there
-takes_stop : (t : Tables) → get t.seek.wanted instance ≡ Some 1 → get t.seek.known instance ≡ None → rule (TakesStopOffer instance 1 server_address) t ≡ nothing
-takes_stop t wants unknown =
-    ap (λ v. if is_wanted 1 v && option_map_or (stands_by server_address t.clock) (get t.seek.known instance) false then stopped else nothing) wants
-    ∙ ap (λ v. if option_map_or (stands_by server_address t.clock) v false then stopped else nothing) unknown
-  where
-    stopped : Outcome
-    stopped = meets (OfferWithdrawn instance ∷ []) (offer_endings instance t)
 
 module _ (config : Config) (is : WantsEvent config) where
   wanted : (items : List Item) → get (answers_of (having_met config items)).seek.wanted instance ≡ Some 1
@@ -140,35 +125,8 @@ module _ (config : Config) (is : WantsEvent config) where
       (ap (λ es. flat_map (subscribe_to (answers_of (having_met config heard_items))) (filter_map (λ e. subscribe_of 0 instance server_address e.0 e.1) es)) (entries_of_none eventgroups_total exact_eventgroups)))
       ∙ ap Ok (no_reply (work_after (having_met config heard_items) (learned [])) server_address)
 
-  pub stop_passed_over : LeadsTo (having_met config []) (Datagram (discovery_at server_address) (discovery_at group_address) (offer_bytes 0)) [] heard_items
-  stop_passed_over =
-      one_entry (having_met config []) (discovery_at server_address) (discovery_at group_address) (offer_bytes 0) (target.Discovery Multicast)
-      (rw is.client.address refl) (rw (is.client.address, is.group) refl) Multicast 1 both_flags (offer_read 0) (TakesStopOffer instance 1 server_address) nothing
-      reads_stop room (is_new Multicast first server_address) refl
-      (takes_stop (answers_of (having_met config heard_items)) (wanted heard_items) (get-empty instance_cmp instance))
-      ∙ ap Ok (no_reply (work_after (having_met config heard_items) nothing) server_address)
-
-  -- the eventgroup was wished before it
-  abbrev wishing_items : List Item
-  wishing_items = PeerHeard server_address Multicast first ∷ Wished eventgroup ∷ []
-
   abbrev waiting : Wish
   waiting = record { stage = Waiting; next_counter = 0 }
-
-  subscribes_then : flat_map (subscribe_to (answers_of (having_met config wishing_items))) (subscribes 0 instance server_address (answers_of (having_met config wishing_items)).wishes) ≡ subscribe_out ∷ []
-  subscribes_then =
-      ap (λ es. flat_map (subscribe_to (answers_of (having_met config wishing_items))) (filter_map (λ e. subscribe_of 0 instance server_address e.0 e.1) es)) (entries_of_one eventgroups_total exact_eventgroups eventgroup waiting)
-      ∙ rw (is.client.wants, is.client.major, is.ttl, is.client.address, is.client.client_port) refl
-
-  pub offer_subscribed : LeadsTo (having_met config (Wished eventgroup ∷ [])) (Datagram (discovery_at server_address) (discovery_at group_address) (offer_bytes 3))
-      (Known instance server ∷ Sent (discovery_at client.ip) (discovery_at server_address) subscribe_bytes ∷ []) (PeerAddressed server_address ∷ OfferCounted instance_offer server ∷ wishing_items)
-  offer_subscribed =
-      one_entry (having_met config (Wished eventgroup ∷ [])) (discovery_at server_address) (discovery_at group_address) (offer_bytes 3) (target.Discovery Multicast)
-      (rw is.client.address refl) (rw (is.client.address, is.group) refl) Multicast 1 both_flags (offer_read 3) (TakesOffer instance_offer) (learned (subscribe_out ∷ []))
-      reads_offer room (is_new Multicast first server_address) refl
-      (takes_offer (answers_of (having_met config wishing_items)) (subscribe_out ∷ []) (wanted wishing_items) (get-empty instance_cmp instance) subscribes_then)
-      ∙ ap Ok (reply_goes (record (work_after (having_met config wishing_items) (learned (subscribe_out ∷ []))) { replies = [] }) server_address subscribe_out subscribe_bytes subscribe_written)
-      ∙ rw is.client.address refl
 
   -- ---- a call, and its answer
 
@@ -228,9 +186,3 @@ module _ (config : Config) (is : WantsEvent config) where
       one_message (having_met config called_items) server client answer_bytes target.Client (rw is.client.address refl) to_client
       (TakesAnswer server answer_header (3 ∷ [])) (answered_by (Some awaited))
       reads_answer (takes_answer called_items ∙ ap answered_by waits)
-
-  pub answer_dropped : LeadsTo (having_met config replied_items) (Datagram server client answer_bytes) (Dropped (AnswerDrop NotPending) ∷ []) replied_items
-  answer_dropped =
-      one_message (having_met config replied_items) server client answer_bytes target.Client (rw is.client.address refl) to_client
-      (TakesAnswer server answer_header (3 ∷ [])) (answered_by None)
-      reads_answer (takes_answer replied_items ∙ ap answered_by (waits_at replied_items))

@@ -1,5 +1,5 @@
 -- Maps of one entry, and of none.
-use Rattle.std.proofs.Common.{◌≡◌, Bool, true, false, if◌then◌else◌, [], ◌∷◌, map, refl, ap, sym, ◌∙◌}
+use Rattle.std.proofs.Common.{◌≡◌, Bool, true, if◌then◌else◌, [], ◌∷◌, map, refl, ap, sym, ◌∙◌}
 use Rattle.std.specs.List.Sorted.{IsStrictlySortedBy}
 use Rattle.std.specs.declared.cmp.Ordering.{Ordering}
 use Rattle.std.specs.Cmp.{IsTotalOrder}
@@ -7,7 +7,6 @@ use Rattle.std.specs.FinMap.{IsAntisymmetric, empty, entries, from_entries, keys
 use Rattle.someip_tables.specs.Retained.{retain}
 use Rattle.someip_tables.proofs.Entries.{from_entries-filter}
 use Rattle.someip_tables.proofs.Trees.{entries-map_of}
-use Rattle.someip_tables.proofs.SortedEntries.{keys-empty}
 
 module _ {K X : Type 0} {R : K → K → Ordering} (o : IsTotalOrder R) (exact : IsAntisymmetric R) where
   pub entries_of_none : entries (empty {X = X} {R = R}) ≡ []
@@ -34,6 +33,3 @@ module _ {K X : Type 0} {R : K → K → Ordering} (o : IsTotalOrder R) (exact :
 
     pub key_kept : p k x ≡ true → keys (retain (from_entries {R = R} ((k, x) ∷ [])) p) ≡ k ∷ []
     key_kept is = ap (λ m. keys m) (kept_is true is) ∙ keys_of_one k x
-
-    pub key_dropped : p k x ≡ false → keys (retain (from_entries {R = R} ((k, x) ∷ [])) p) ≡ []
-    key_dropped is = ap (λ m. keys m) (kept_is false is) ∙ keys-empty X R

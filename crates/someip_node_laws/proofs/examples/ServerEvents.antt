@@ -1,5 +1,5 @@
 -- The server's half of the worked run from the Subscribe on, by computation.
-use Rattle.std.proofs.Common.{◌≡◌, ℕ, ◌++◌, nat_le, nat_lt, not, Bool, true, false, if◌then◌else◌, List, [], ◌∷◌, filter, map, Option, None, Some, Ok, refl, ap, arith, ◌∙◌}
+use Rattle.std.proofs.Common.{◌≡◌, ℕ, nat_le, nat_lt, not, Bool, true, false, if◌then◌else◌, List, [], ◌∷◌, filter, map, Option, None, Some, Ok, refl, ap, arith, ◌∙◌}
 use Rattle.std.proofs.lemmas.Bool.{lt-leb}
 use Rattle.std.specs.List.{list_any}
 use Rattle.std.specs.Option.{is_some, option_map_or}
@@ -19,7 +19,7 @@ use Rattle.someip_tables.specs.Endpoints.{endpoint_cmp}
 use Rattle.someip_tables.specs.Lastings.{unexpired}
 use Rattle.someip_tables.specs.SortedSet.{sorted_set}
 use Rattle.someip_tables.proofs.Entries.{len-retain-≤, len-retain_keys-≤}
-use Rattle.someip_tables.proofs.MapLaws.{len-remove-≤, retain-empty}
+use Rattle.someip_tables.proofs.MapLaws.{len-remove-≤}
 use Rattle.sd_wire.specs.declared.entry.EntryHead.TheVariants.{Eventgroup as OfEventgroup}
 use Rattle.sd_wire.specs.encoding.Encoding.{message_bytes}
 use Rattle.sd_wire.specs.decoding.Program.{options_within}
@@ -34,34 +34,32 @@ use Rattle.sd_core.specs.SubscriptionKeys.{subscription_cmp}
 use Rattle.sd_core.specs.SubscriptionOrder.{subscriptions_total, exact_subscriptions}
 use Rattle.someip_tables.proofs.SortedEntries.{keys-empty}
 use Rattle.someip_rpc.specs.Events.{event_header, event_of, next_session_of, publish_refusal}
-use Rattle.someip_rpc.specs.declared.request.Reply.TheVariants.{Response}
 use Rattle.someip_rpc.specs.declared.error.RpcError.TheVariants as rpc_error
-use Rattle.someip_node_rules.specs.steps.Advances.{after_inputs}
 use Rattle.someip_node_rules.specs.rules.Errors.{as_node_error}
 use Rattle.someip_node_rules.specs.rules.Publishing.{publishes_by}
 use Rattle.someip_node_rules.specs.forms.Entries.{ack_entry, discovery_message, udp_option}
 use Rattle.someip_node_rules.specs.rules.Handling.{heard_plan, target_plan}
-use Rattle.someip_node_rules.specs.histories.History.{History, answers_of}
-use Rattle.someip_node_rules.specs.rules.Inputs.{Input, Answer, Datagram, Publish, Tick, refusal_of}
-use Rattle.someip_node_rules.specs.histories.Items.{Item, OfferStopped, PeerAddressed, PeerHeard, Published}
+use Rattle.someip_node_rules.specs.histories.History.{answers_of}
+use Rattle.someip_node_rules.specs.rules.Inputs.{Datagram, Publish, refusal_of}
+use Rattle.someip_node_rules.specs.histories.Items.{Item, OfferStopped, PeerHeard, Published}
 use Rattle.someip_node_rules.specs.rules.Outcomes.{Outcome, nothing}
 use Rattle.someip_node_rules.specs.forms.Outputs.{Sends}
 use Rattle.someip_node_rules.specs.rules.Plans.{both, rest, rule, Publishes, TakesSubscribe}
 use Rattle.someip_node_rules.specs.forms.Setups.{has_eventgroup}
 use Rattle.someip_node_rules.specs.histories.SubscriberQuestions.{stands_until}
-use Rattle.someip_node_rules.specs.rules.ServerSubscribing.{accepted_at, nacked_for, rules_by, subscribe_by, subscribe_in}
+use Rattle.someip_node_rules.specs.rules.ServerSubscribing.{accepted_at, rules_by, subscribe_by, subscribe_in}
 use Rattle.someip_node_rules.specs.histories.Tables.{Tables, is_up, live_subscribers}
-use Rattle.someip_node_laws.specs.WorkedExamples.{client, discovery_at, discovery_head, instance, nack_answer, nack_payload, server, server_address, service, subscribe_head}
-use Rattle.someip_node_laws.specs.WorkedRun.{LeadsTo, OffersEvent, accepted_items, ack_bytes, having_met, answered_items, call_packet, comes, event_bytes, eventgroup, offered_items, published_items, requested_items, server_inputs, subscribe_bytes, subscribe_packet, subscription}
+use Rattle.someip_node_laws.specs.WorkedExamples.{client, discovery_at, instance, server, server_address, service, subscribe_head}
+use Rattle.someip_node_laws.specs.WorkedRun.{LeadsTo, OffersEvent, accepted_items, ack_bytes, having_met, answered_items, event_bytes, eventgroup, published_items, subscribe_bytes, subscription}
 use Rattle.someip_node_rules.specs.declared.config.Config.{Config}
 use Rattle.someip_node_rules.specs.declared.error.NodeError.TheVariants.{Rpc}
-use Rattle.someip_node_rules.specs.declared.output.Output.TheVariants.{Accepted, Nacked, Sent}
+use Rattle.someip_node_rules.specs.declared.output.Output.TheVariants.{Accepted, Sent}
 use Rattle.someip_node_rules.specs.declared.target.Target.TheVariants as target
 use Rattle.someip_node_laws.proofs.examples.ClientRun.{both_flags}
 use Rattle.someip_node_laws.proofs.histories.NamedLemmas.{next-event_session}
 use Rattle.someip_node_laws.proofs.examples.OneEntryLemmas.{entry_kept, keys_of_one}
-use Rattle.someip_node_laws.proofs.examples.ServerRun.{answer_goes, call_taken, offered, offered_here, up_at}
-use Rattle.someip_node_laws.proofs.examples.StepLemmas.{has_room, is_new, joins, one_entry, one_rule, reply_goes, work_after}
+use Rattle.someip_node_laws.proofs.examples.ServerRun.{offered_here, up_at}
+use Rattle.someip_node_laws.proofs.examples.StepLemmas.{has_room, is_new, one_entry, one_rule, reply_goes, work_after}
 use Rattle.someip_node_laws.proofs.histories.UpLemmas.{up_is}
 
 -- what is read of the Subscribe
@@ -80,10 +78,6 @@ ack = ack_entry subscribe_head 3
 ack_written : spelling (discovery_message (after_uses 0) (ack ∷ [])) ≡ ack_bytes 0
 unfolding message_bytes
 ack_written = refl
-
-nack_written : spelling (discovery_message (after_uses 0) (nack_answer ∷ [])) ≡ discovery_head 0x24 ++ nack_payload
-unfolding message_bytes
-nack_written = refl
 
 -- no subscription is live where none was accepted
 none_beside : (now : ℕ) → nat_le 16 (count_beside subscription (unexpired now empty)) ≡ false
@@ -147,15 +141,6 @@ module _ (config : Config) (is : OffersEvent config) where
   pub is_down : is_up (answers_of (having_met config stopped_heard_items)) instance ≡ false
   is_down = up_is (having_met config stopped_heard_items) instance ∙ rw is.server.offers refl
 
-  pub subscribe_nacked : LeadsTo (having_met config stopped_items) (Datagram (discovery_at client.ip) (discovery_at server_address) subscribe_bytes)
-      (Nacked eventgroup NotOffered ∷ Sent (discovery_at server_address) (discovery_at client.ip) (discovery_head 0x24 ++ nack_payload) ∷ []) (PeerAddressed client.ip ∷ stopped_heard_items)
-  subscribe_nacked =
-      one_entry (having_met config stopped_items) (discovery_at client.ip) (discovery_at server_address) subscribe_bytes (target.Discovery Unicast)
-      (rw is.server.address refl) (rw is.server.address refl) Unicast 1 both_flags subscribe_read (TakesSubscribe client.ip subscribe_head (Some client)) (nacked_for subscribe_head NotOffered)
-      reads_subscribe (rw is.peers (has_room 64 client.ip (omega arith))) (is_new Unicast first client.ip) refl (takes_subscribe stopped_heard_items false is_down)
-      ∙ ap Ok (reply_goes (record (work_after (having_met config stopped_heard_items) (nacked_for subscribe_head NotOffered)) { replies = [] }) client.ip nack_answer (discovery_head 0x24 ++ nack_payload) nack_written)
-      ∙ rw is.server.address refl
-
   -- ---- the event is published
 
   abbrev entries_of_event : List (ℕ × BTreeSet ℕ) → Option (BTreeSet ℕ)
@@ -206,49 +191,7 @@ module _ (config : Config) (is : OffersEvent config) where
       (may_publish accepted_items (up_at config is accepted_items refl)) refl
       (publishes_then accepted_items (up_at config is accepted_items refl) (from_entries one_live) 1 (client ∷ []) lives (next-event_session accepted_items (event_of (service is.server.events).rules 0x8001)) to_client)
 
-  -- none is
-  none_live : live_subscribers (answers_of (having_met config answered_items)) ≡ empty
-  none_live = retain-empty subscriptions_total exact_subscriptions (λ _ lasting. not (has_passed 10 lasting.until))
-
   to_none : endpoints_of instance (1 ∷ []) empty ≡ []
   to_none =
       ap (λ ks. sorted_set endpoint_cmp (map (λ (s : Subscription). s.endpoint) (filter (is_to_any instance (1 ∷ [])) ks))) (keys-empty (Lasting (Unit {0})) subscription_cmp)
       ∙ keys-empty (Unit {0}) endpoint_cmp
-
-  pub event_goes_nowhere : LeadsTo (having_met config answered_items) (Publish instance 0x8001 (0x2a ∷ [])) [] (Published (record { service = 0x1111; instance = 1; event = 0x8001 }) ∷ answered_items)
-  event_goes_nowhere =
-      one_rule (having_met config answered_items) (Publish instance 0x8001 (0x2a ∷ [])) (Publishes instance 0x8001 (0x2a ∷ [])) (published_to answered_items (up_at config is answered_items refl) 1 [])
-      (may_publish answered_items (up_at config is answered_items refl)) refl
-      (publishes_then answered_items (up_at config is answered_items refl) empty 1 [] none_live (next-event_session answered_items (event_of (service is.server.events).rules 0x8001)) to_none)
-
-  -- ---- from the start on
-
-  abbrev start : History
-  start = having_met config []
-
-  abbrev inputs1 : List Input
-  inputs1 = Tick 10 ∷ []
-
-  abbrev inputs2 : List Input
-  inputs2 = comes call_packet ∷ inputs1
-
-  abbrev inputs3 : List Input
-  inputs3 = Answer 1 (Response (record { 0 = 0 })) (3 ∷ []) ∷ inputs2
-
-  abbrev inputs4 : List Input
-  inputs4 = comes subscribe_packet ∷ inputs3
-
-  after1 : after_inputs start inputs1 ≡ having_met config offered_items
-  after1 = joins start (having_met config []) [] (Tick 10) _ _ refl (offered config is)
-
-  after2 : after_inputs start inputs2 ≡ having_met config requested_items
-  after2 = joins start (having_met config offered_items) inputs1 (comes call_packet) _ _ after1 (call_taken config is)
-
-  after3 : after_inputs start inputs3 ≡ having_met config answered_items
-  after3 = joins start (having_met config requested_items) inputs2 (Answer 1 (Response (record { 0 = 0 })) (3 ∷ [])) _ _ after2 (answer_goes config is)
-
-  after4 : after_inputs start inputs4 ≡ having_met config accepted_items
-  after4 = joins start (having_met config answered_items) inputs3 (comes subscribe_packet) _ _ after3 subscribe_accepted
-
-  pub server_joins : after_inputs start server_inputs ≡ having_met config published_items
-  server_joins = joins start (having_met config accepted_items) inputs4 (Publish instance 0x8001 (0x2a ∷ [])) _ _ after4 event_goes

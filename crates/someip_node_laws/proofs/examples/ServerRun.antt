@@ -1,5 +1,5 @@
 -- The server's half of the worked run, by computation.
-use Rattle.std.proofs.Common.{◌≡◌, ℕ, ◌&&◌, ◌||◌, nat_le, not, Bool, true, false, if◌then◌else◌, List, [], ◌∷◌, ◌++◌, map, None, Some, Result, Ok, Err, refl, ap, ◌∙◌}
+use Rattle.std.proofs.Common.{◌≡◌, ℕ, ◌&&◌, ◌||◌, nat_le, not, Bool, true, false, if◌then◌else◌, List, [], ◌∷◌, ◌++◌, map, None, Some, Result, Ok, refl, ap, ◌∙◌}
 use Rattle.std.specs.List.{flat_map}
 use Rattle.std.specs.FinMap.{get, get-from_entries, keys, len, len-empty}
 use Rattle.sd_wire.specs.encoding.Encoding.{message_bytes}
@@ -25,7 +25,6 @@ use Rattle.std.specs.Ordering.{nat_cmp}
 use Rattle.someip_wire.specs.declared.header.Header.{Header}
 use Rattle.someip_wire.specs.declared.header.MessageType.TheVariants as kinds
 use Rattle.someip_wire.specs.Reading.{items_within}
-use Rattle.someip_rpc.specs.declared.error.RpcError.TheVariants.{UnknownToken}
 use Rattle.someip_rpc.specs.declared.request.Asked.{Asked}
 use Rattle.someip_rpc.specs.declared.request.Reply.{Reply}
 use Rattle.someip_rpc.specs.declared.request.Reply.TheVariants.{Response}
@@ -35,8 +34,6 @@ use Rattle.someip_rpc.specs.Servers.{answer_refusal}
 use Rattle.someip_node_rules.specs.rules.Handling.{target_of, target_plan}
 use Rattle.someip_node_rules.specs.steps.Lives.{was_stopped}
 use Rattle.someip_node_rules.specs.rules.Messages.{request_by, request_to}
-use Rattle.someip_node_rules.specs.steps.Steps.{unless_refused, given_in}
-use Rattle.someip_node_rules.specs.declared.error.NodeError.TheVariants.{Rpc}
 use Rattle.someip_node_rules.specs.declared.target.Target.TheVariants as target
 use Rattle.someip_node_laws.proofs.histories.NamedLemmas.{get-request}
 use Rattle.someip_node_laws.proofs.histories.UpLemmas.{up_is}
@@ -54,7 +51,7 @@ use Rattle.someip_node_rules.specs.forms.Receivers.{message_plan_to}
 use Rattle.someip_node_rules.specs.forms.Setups.{offered_as, wanted_instances}
 use Rattle.someip_node_rules.specs.rules.Offering.{offer_of}
 use Rattle.someip_node_rules.specs.histories.Tables.{Tables, is_up, passed_instances}
-use Rattle.someip_node_laws.specs.WorkedExamples.{client, discovery_at, gives, instance, server, server_address, service}
+use Rattle.someip_node_laws.specs.WorkedExamples.{client, discovery_at, instance, server, server_address, service}
 use Rattle.someip_node_laws.specs.WorkedRun.{LeadsTo, OffersEvent, having_met, answer_bytes, answered_items, call_bytes, group_address, offer_bytes, offered_items, asked_call, requested_items}
 use Rattle.someip_node_rules.specs.declared.config.Config.{Config}
 use Rattle.std.specs.BTreeMap.{is_at}
@@ -64,8 +61,8 @@ use Rattle.someip_node_rules.specs.declared.config.WantedService.{WantedService}
 use Rattle.someip_node_rules.specs.declared.error.NodeError.{NodeError}
 use Rattle.someip_node_rules.specs.declared.output.Output.TheVariants.{Request as RequestOutput, Sent, TimedOut}
 use Rattle.someip_node_rules.specs.declared.receiver.Receiver.TheVariants.{Group}
-use Rattle.someip_node_laws.proofs.examples.OneEntryLemmas.{key_dropped, key_kept}
-use Rattle.someip_node_laws.proofs.examples.StepLemmas.{no_front, one_front, one_message, one_rule}
+use Rattle.someip_node_laws.proofs.examples.OneEntryLemmas.{key_kept}
+use Rattle.someip_node_laws.proofs.examples.StepLemmas.{one_front, one_message, one_rule}
 
 module _ (config : Config) (is : OffersEvent config) where
   -- ---- the first moments
@@ -105,14 +102,8 @@ module _ (config : Config) (is : OffersEvent config) where
       ap (λ xs. flat_map (offer_of t) xs ++ flat_map (find_of t) (keys (due_at ms t.seek.finding))) due
       ∙ ap (λ xs. flat_map (offer_of t) instances ++ flat_map (find_of t) xs) (no_finds ms)
 
-  none_due : keys (due_at 9 t.offers.up) ≡ []
-  none_due = rw is.server.offers (key_dropped instances_total exact_instances (λ _ sending. goes_out 9 sending) instance (first_at 10) refl)
-
   one_due : keys (due_at 10 t.offers.up) ≡ instance ∷ []
   one_due = rw is.server.offers (key_kept instances_total exact_instances (λ _ sending. goes_out 10 sending) instance (first_at 10) refl)
-
-  pub silent_before : LeadsTo (having_met config []) (Tick 9) [] (Ticked 9 ∷ [])
-  silent_before = brought 9 [] (ap fronts (entries_due 9 [] none_due) ∙ no_front)
 
   offer_goes : brings 10 [] [] ((offer ∷ []) ∷ [])
       ≡ Ok (record {
@@ -182,7 +173,3 @@ module _ (config : Config) (is : OffersEvent config) where
       one_rule (having_met config requested_items) (Answer 1 reply (3 ∷ [])) (Answers 1 reply (3 ∷ [])) (answers_request 1 reply (3 ∷ []) asked_call)
       (ap (λ v. as_node_error (answer_refusal config.common.message_limit reply 1 v)) waiting ∙ rw is.message_limit refl) refl
       (ap (λ v. option_map_or (answers_request 1 reply (3 ∷ [])) v nothing) waiting)
-
-  pub other_token_refused : gives (having_met config requested_items) (Answer 2 reply (3 ∷ [])) ≡ Err (Rpc UnknownToken)
-  other_token_refused =
-      ap (λ v. given_in (unless_refused (as_node_error (answer_refusal config.common.message_limit reply 1 v)) (act (Answers 2 reply (3 ∷ []))) (having_met config requested_items))) unknown

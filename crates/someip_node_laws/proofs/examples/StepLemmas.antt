@@ -1,6 +1,6 @@
 -- What a step gives, by what its rules say: of an input with one rule, of a message of Service Discovery with one entry,
 -- and of a call that is the first one.
-use Rattle.std.proofs.Common.{◌≡◌, ◌<◌, ◌||◌, ℕ, Bool, true, false, not, if◌then◌else◌, List, [], ◌∷◌, ◌++◌, length, None, Some, Ok, Err, refl, ap, ◌∙◌}
+use Rattle.std.proofs.Common.{◌≡◌, ◌<◌, ◌||◌, ℕ, Bool, true, false, not, if◌then◌else◌, List, [], ◌∷◌, ◌++◌, length, None, Some, Ok, refl, ap, ◌∙◌}
 use Rattle.std.specs.List.{flat_map, fold}
 use Rattle.std.specs.Option.{is_some, option_map_or}
 use Rattle.std.specs.FinMap.{empty, get, get-empty, len, len-empty}
@@ -27,12 +27,11 @@ use Rattle.sd_core.specs.declared.keys.InstanceId.{InstanceId}
 use Rattle.someip_rpc.specs.declared.call.Awaited.{Awaited}
 use Rattle.someip_rpc.specs.declared.call.Call.{Call}
 use Rattle.someip_rpc.specs.declared.call.CallKind.TheVariants.{Request}
-use Rattle.someip_rpc.specs.declared.error.RpcError.TheVariants.{Busy, NotOffered, TooLong}
+use Rattle.someip_rpc.specs.declared.error.RpcError.TheVariants.{Busy, TooLong}
 use Rattle.someip_rpc.specs.Calls.{call_header, call_refusal, is_full}
 use Rattle.someip_rpc.specs.Ids.{call_cmp}
 use Rattle.someip_tables.specs.Sessions.{session_after_last}
 use Rattle.someip_rpc.specs.Sessions.{next_of}
-use Rattle.someip_node_rules.specs.steps.Advances.{after_inputs, stepped}
 use Rattle.someip_node_rules.specs.rules.Calling.{call_of, calls_at, first_free, first_free_of, session_of}
 use Rattle.someip_node_rules.specs.rules.Errors.{as_node_error}
 use Rattle.someip_node_rules.specs.histories.DiscoveryQuestions.{messages_to}
@@ -40,7 +39,7 @@ use Rattle.someip_node_rules.specs.forms.Entries.{discovery_message, fronts}
 use Rattle.someip_node_rules.specs.rules.Handling.{entries_plan, entry_plan, heard_plan, same_address, target_of, target_plan}
 use Rattle.someip_node_rules.specs.histories.History.{History, answers_of, historic, met}
 use Rattle.someip_node_rules.specs.rules.Inputs.{Input, Call as CallInput, Datagram, plan_of, refusal_of}
-use Rattle.someip_node_rules.specs.histories.Items.{Item, Called, PeerAddressed, PeerHeard}
+use Rattle.someip_node_rules.specs.histories.Items.{Called, PeerAddressed, PeerHeard}
 use Rattle.someip_node_rules.specs.rules.Learning.{hearing_by}
 use Rattle.someip_node_rules.specs.rules.Outcomes.{Outcome, nothing}
 use Rattle.someip_node_rules.specs.forms.Outputs.{Announces, Sends, Tells, written}
@@ -49,10 +48,8 @@ use Rattle.someip_node_rules.specs.forms.Receivers.{message_plan_to, messages_pl
 use Rattle.someip_node_rules.specs.forms.Setups.{client_endpoint, client_rules, discovery_endpoint}
 use Rattle.someip_node_rules.specs.steps.Steps.{step, unless_refused, work_on}
 use Rattle.someip_node_rules.specs.histories.Tables.{Tables, known_endpoint, waiting_calls}
-use Rattle.someip_node_rules.specs.declared.output.Output.{Output}
 use Rattle.someip_node_rules.specs.declared.output.Output.TheVariants.{Called as CallOutput, Sent}
 use Rattle.someip_node_rules.specs.declared.drops.DropReason.TheVariants.{Own, PeersFull}
-use Rattle.someip_node_rules.specs.declared.error.NodeError.TheVariants.{Rpc}
 use Rattle.someip_node_rules.specs.declared.target.Target.{Target}
 use Rattle.someip_node_rules.specs.declared.receiver.Receiver.TheVariants.{Peer}
 use Rattle.someip_node_laws.proofs.histories.NamedLemmas.{stamp-next}
@@ -213,16 +210,3 @@ module _ (h : History) (instance : InstanceId) (method : ℕ) (payload : List �
 
       said : rule (Calls Request instance method payload) t ≡ called_with 1
       said = ap (λ k. option_map_or (λ p. calls_at made payload p t) k nothing) known ∙ ap called_with session
-
--- one of an instance of which no offer is known is refused
-pub call_refused : (h : History) (instance : InstanceId) (method : ℕ) (payload : List ℕ) → known_endpoint (answers_of h) instance ≡ None
-    → step h (CallInput Request instance method payload) ≡ Err (Rpc NotOffered)
-call_refused h instance method payload none =
-    ap (λ k. unless_refused (as_node_error (call_refusal (client_rules h.config) Request (length payload) k (waiting_calls (answers_of h)))) (act (Calls Request instance method payload)) h) none
-
--- ---- one step after another
-
--- a step from the history that the steps before lead to
-pub joins : (start h : History) (inputs : List Input) (input : Input) (outputs : List Output) (items : List Item) → after_inputs start inputs ≡ h
-    → step h input ≡ Ok (record { state = record h { items = items }; outputs = outputs; replies = [] }) → after_inputs start (input ∷ inputs) ≡ record h { items = items }
-joins start h inputs input outputs items before does = ap (λ x. stepped x (step x input)) before ∙ ap (stepped h) does
