@@ -7,6 +7,7 @@ words that come to no command are refused. A setup is run over a schedule withou
 worked setup, and those of `in_order` put fault after fault into a setup with every key (but `liar`, which a row adds), so
 that each is told before all that stand there already. A types file shows a request, whose value is told where the file
 has a table.
+Schedules of one step, and of none, are right, and run as such.
 
 Captures are read, and services are chosen of one. Messages of recordings are put together from their segments. A value
 that the vectors expect is encoded from its text, and what that writes is told by the same text. Each front of the text is
