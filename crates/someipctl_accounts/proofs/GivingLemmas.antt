@@ -16,7 +16,7 @@ use Rattle.someipctl_recordings.specs.declared.recordings.ShownRecording.{ShownR
 use Rattle.someipctl_recordings.specs.Coming.{Comes}
 use Rattle.someipctl_recordings.specs.Files.{WereLeft, fault_among, items_of_files}
 use Rattle.someipctl_recordings.specs.Moments.{moment_of}
-use Rattle.someipctl_recordings.specs.audit.SeenIn.{arrivals_in}
+use Rattle.someipctl_audit.specs.SeenIn.{arrivals_in}
 use Rattle.someipctl_recordings.proofs.ComingLemmas.{begin}
 use Rattle.someipctl_recordings.proofs.FileLemmas.{AreRead, IsStep, WholeFiles, left_at, part_files, reads_all, reads_begin, reads_fault, reads_more, reads_next, told}
 use Rattle.someipctl_recordings.proofs.RecordedLemmas.{fault-append}

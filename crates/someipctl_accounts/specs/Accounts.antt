@@ -12,9 +12,9 @@ use Rattle.someipctl_recordings.specs.declared.recordings.FileFault.{FileFault}
 use Rattle.someipctl_recordings.specs.declared.recordings.ShownRecording.{ShownRecording}
 use Rattle.someipctl_recordings.specs.Moments.{moment_of}
 use Rattle.someipctl_recordings.specs.Files.{WereLeft, fault_in, items_of_files}
-use Rattle.someipctl_recordings.specs.audit.Scenes.{view_seen}
-use Rattle.someipctl_recordings.specs.audit.SeenIn.{arrivals_in, seen_next}
-use Rattle.someipctl_recordings.specs.declared.audit.auditing.SeenDatagram.{SeenDatagram}
+use Rattle.someipctl_audit.specs.Scenes.{view_seen}
+use Rattle.someipctl_audit.specs.SeenIn.{arrivals_in, seen_next}
+use Rattle.someipctl_audit.specs.declared.auditing.SeenDatagram.{SeenDatagram}
 
 -- ---- what is told of files
 

@@ -3,8 +3,8 @@ ghost use Rattle.std.specs.Prelude.{ℕ, List, OnErr, OnOk};
 ghost use Rattle.someipctl_accounts.specs.Accounts.{Came, PutsEnd, PutsTaken, StopsEnd, StopsTaken, view_came};
 
 use someip_tables::Moment;
+use someipctl_audit::SeenDatagram;
 use someipctl_io::{Buffer, PrintFault};
-use someipctl_recordings::audit::SeenDatagram;
 use std::io::Write;
 
 /// What goes over the datagrams of a recording, in order, and prints what it tells of them.

@@ -11,7 +11,7 @@ use Rattle.clap.specs.declared.Error.{Error}
 use Rattle.clap.specs.declared.error.ErrorKind.{ErrorKind}
 use Rattle.clap.specs.declared.error.ErrorKind.TheVariants as kind
 use Rattle.clap.specs.declared.builder.ArgAction.TheVariants.{Append, SetTrue}
-use Rattle.someipctl_recordings.specs.declared.audit.SettingTexts.{SettingTexts}
+use Rattle.someipctl_audit.specs.declared.SettingTexts.{SettingTexts}
 use Rattle.someipctl_cli.specs.declared.command.Command.{Command}
 use Rattle.someipctl_cli.specs.declared.command.Command.TheVariants.{Show, Payload, Encode, Vectors, Run, Recording, Chart, Audit, Explore, Extract, Services, Stats}
 use Rattle.someipctl_cli.specs.declared.command.AuditOptions.{AuditOptions}

@@ -18,7 +18,7 @@ use crate::report_words::{ReportOptions, services_matched};
 use crate::stats_words::{StatsOptions, stats_matched};
 use clap::ArgMatches;
 use clap::error::ErrorKind;
-use someipctl_recordings::audit::SettingTexts;
+use someipctl_audit::SettingTexts;
 use std::alloc::{AllocError, Global};
 use std::convert::AsStr;
 use thiserror::Error;

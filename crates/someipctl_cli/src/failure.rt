@@ -8,10 +8,10 @@ ghost use Rattle.someipctl_cli.specs.Failures.{failure_of, failure_of_list, fail
 ghost use Rattle.someipctl_cli.specs.Failures.{status_of_failure};
 
 use recording::RecordingError;
+use someipctl_audit::SettingError;
 use someipctl_explore::{GoalRefusal, MovesRefusal};
 use someipctl_io::{Fault, ReadFault};
 use someipctl_recordings::LimitsError;
-use someipctl_recordings::audit::SettingError;
 use someipctl_recordings::lists::ListError;
 use someipctl_rules::RulesRefusal;
 use someipctl_run::{BadTraceLine, ScheduleRefusal, SetupRefusal};

@@ -8,9 +8,9 @@ use crate::source::{open_sources, rules_at, types_at};
 use crate::stats_words::StatsOptions;
 use recording_packets::LeftOut;
 use someip_tp::IntervalPool;
+use someipctl_audit::{AuditAsked, rules_in, show_audit};
 use someipctl_extract::{Losses, extract_recording};
 use someipctl_io::Outcome;
-use someipctl_recordings::audit::{AuditAsked, rules_in, show_audit};
 use someipctl_recordings::{
     Asked, FileFault, Heads, ShownRecording, StoppedAt, Wanted, show_recording,
 };

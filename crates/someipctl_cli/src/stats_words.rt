@@ -11,7 +11,7 @@ use crate::examples::STATS_EXAMPLE;
 use crate::grammar::{add_choice, add_json, add_packets, files, taking, valued_option};
 use crate::report_words::{ReportOptions, report_options};
 use clap::ArgMatches;
-use someipctl_recordings::audit::SettingTexts;
+use someipctl_audit::SettingTexts;
 use std::alloc::{AllocError, Global};
 
 /// The options of `stats`.

@@ -7,4 +7,3 @@ pub mod FileLemmas
 pub mod ShowingLemmas
 pub mod ChoiceLemmas
 pub mod ListLemmas
-pub mod about_audit

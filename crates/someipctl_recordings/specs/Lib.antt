@@ -13,4 +13,3 @@ pub mod RecordedText
 pub mod Scenes
 pub mod RecordingResult
 pub mod Coming
-pub mod audit

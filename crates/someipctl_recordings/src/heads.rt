@@ -201,7 +201,7 @@ pub fn field_of<'f>(lead: &'f str, key: &'f str, said: Said<'f>) -> Field<'f>
 }
 
 /// A time, which may not be there.
-pub(crate) fn said_of_time(time: Option<Time>) -> Said<'static>
+pub fn said_of_time(time: Option<Time>) -> Said<'static>
     ensures { view_said result ≡ said_of_time time }
 {
     match time {

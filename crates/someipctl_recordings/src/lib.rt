@@ -8,7 +8,6 @@
 //! - [`lists`]: the ports, interfaces, VLAN IDs and addresses that a text names;
 //! - [`read_loop`], [`moments`], [`heads`], [`reassembly`]: what comes next of a recording, its moment, the text of
 //!   its time, and its endpoints, for whatever else goes over a recording;
-//! - [`audit`]: the command `audit`, over the same way of reading;
 //! - [`laws`]: what the definitions behind the contracts promise.
 //!
 //! `read_loop` asks the reader of a recording what is next; where that needs bytes, it writes out what was
@@ -21,7 +20,6 @@
 #![tactic(auto)]
 
 mod asked;
-pub mod audit;
 pub mod choice;
 mod datagrams;
 pub mod heads;

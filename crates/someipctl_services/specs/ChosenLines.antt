@@ -13,8 +13,8 @@ use Rattle.audit_services.specs.declared.subscribed.Subscribed.{Subscribed}
 use Rattle.someip_services.specs.declared.told.Told.{Told}
 use Rattle.someip_services.specs.declared.told.Told.TheVariants.{Full, Offer, Subscription}
 use Rattle.someipctl_recordings.specs.Wanted.{WantedValue, is_in_span as is_time_in_span}
-use Rattle.someipctl_recordings.specs.audit.AuditText.{time_at}
-use Rattle.someipctl_recordings.specs.audit.Subjects.{about_service, is_of_client, is_of_services}
+use Rattle.someipctl_audit.specs.AuditText.{time_at}
+use Rattle.someipctl_audit.specs.Subjects.{about_service, is_of_client, is_of_services}
 
 -- an address as a number, the highest byte first
 abbrev pub number_of : Ipv4Addr → ℕ

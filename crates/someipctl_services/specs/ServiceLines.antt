@@ -13,7 +13,7 @@ use Rattle.someip_services.specs.declared.told.FullBook.TheVariants as full
 use Rattle.someip_services.specs.declared.told.Told.{Told}
 use Rattle.someip_services.specs.declared.told.Told.TheVariants.{Full, Offer, Subscription}
 use Rattle.someipctl_io.specs.ToldLines.{Content, ToldField, ToldLine, address, byte, endpoint, field, id, number, text, time}
-use Rattle.someipctl_recordings.specs.audit.AuditText.{time_at}
+use Rattle.someipctl_audit.specs.AuditText.{time_at}
 use Rattle.someipctl_show.specs.VerdictForms.{wordless}
 
 -- why an interval ended, in a word

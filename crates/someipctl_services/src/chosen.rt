@@ -5,8 +5,8 @@ ghost use Rattle.someipctl_services.specs.ChosenLines.{is_at, is_chosen, is_in_s
 
 use audit_services::{Ended, Interval, NoTerms, OfferTerms, Offered, Subscribed};
 use someip_services::Told;
-use someipctl_recordings::audit::subject::{Subject, is_of_client, is_of_services};
-use someipctl_recordings::audit::time_at;
+use someipctl_audit::subject::{Subject, is_of_client, is_of_services};
+use someipctl_audit::time_at;
 use someipctl_recordings::{Wanted, is_in_span as is_time_in_span};
 use std::net::Ipv4Addr;
 

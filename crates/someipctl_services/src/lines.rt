@@ -9,8 +9,8 @@ ghost use Rattle.someipctl_services.specs.ServiceLines.{subscription_fields, tol
 
 use audit_services::{Ended, NoTerms, OfferTerms, Offered, Subscribed, Why};
 use someip_services::{FullBook, Told};
+use someipctl_audit::{put_headless, time_at};
 use someipctl_io::{Buffer, CannotWrite, Field, Form, Said};
-use someipctl_recordings::audit::{put_headless, time_at};
 use someipctl_recordings::heads::field_of;
 use std::io::Write;
 

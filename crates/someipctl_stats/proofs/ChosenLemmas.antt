@@ -4,7 +4,7 @@ use Rattle.recording.specs.declared.Time.{Time}
 use Rattle.audit_stats.specs.Stats.{Fact}
 use Rattle.someip_tables.specs.declared.hashed.Origin.{Origin}
 use Rattle.someipctl_recordings.specs.Wanted.{WantedValue, is_in_span}
-use Rattle.someipctl_recordings.specs.audit.Subjects.{about_event, is_of_addresses, is_of_client, is_of_services}
+use Rattle.someipctl_audit.specs.Subjects.{about_event, is_of_addresses, is_of_client, is_of_services}
 
 none_counts : (a b c : Bool) (facts : List Fact) → (if ((a && false) && b) && c then facts else []) ≡ []
 none_counts true b c facts = refl

@@ -20,9 +20,9 @@ use Rattle.someip_tables.specs.declared.hashed.Origin.{Origin}
 use Rattle.someipctl_accounts.specs.Accounts.{Came, IsAccount, TakesAll, came_in, latest_of}
 use Rattle.someipctl_io.specs.declared.form.Form.{Form}
 use Rattle.someipctl_recordings.specs.Wanted.{WantedValue, ports_of}
-use Rattle.someipctl_recordings.specs.audit.AskedAudits.{learns}
-use Rattle.someipctl_recordings.specs.audit.AuditText.{origin_of_due, time_at}
-use Rattle.someipctl_recordings.specs.audit.Subjects.{is_told}
+use Rattle.someipctl_audit.specs.AskedAudits.{learns}
+use Rattle.someipctl_audit.specs.AuditText.{origin_of_due, time_at}
+use Rattle.someipctl_audit.specs.Subjects.{is_told}
 use Rattle.someipctl_stats.specs.declared.counting.Counting.{Counting}
 use Rattle.someipctl_stats.specs.declared.lacks.Lacks.{Lacks}
 use Rattle.someipctl_stats.specs.declared.shown.Shown.{Shown}

@@ -14,8 +14,8 @@ use Rattle.someip_wire.specs.declared.WireError.{WireError}
 use Rattle.someip_wire.specs.Reading.{items_of}
 use Rattle.someip_wire.specs.Spelling.{MessageValue}
 use Rattle.someipctl_recordings.specs.Wanted.{WantedValue}
-use Rattle.someipctl_recordings.specs.audit.AuditText.{origin_of_due, time_at}
-use Rattle.someipctl_recordings.specs.audit.Subjects.{about_call, is_told}
+use Rattle.someipctl_audit.specs.AuditText.{origin_of_due, time_at}
+use Rattle.someipctl_audit.specs.Subjects.{about_call, is_told}
 use Rattle.someipctl_stats.specs.declared.counting.Counting.{Counting}
 use Rattle.someipctl_stats.specs.declared.lacks.Lacks.{Lacks}
 use Rattle.someipctl_stats.specs.declared.shown.Shown.{Shown}

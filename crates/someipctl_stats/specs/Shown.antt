@@ -12,8 +12,8 @@ use Rattle.someip_audit.specs.declared.FellDue.TheVariants as due
 use Rattle.someip_audit.specs.declared.Finding.{Finding}
 use Rattle.someip_audit.specs.declared.Finding.TheVariants as findings
 use Rattle.someip_tables.specs.declared.hashed.Origin.{Origin}
-use Rattle.someipctl_recordings.specs.audit.Subjects.{about_event}
-use Rattle.someipctl_recordings.specs.declared.audit.subject.Subject.{Subject}
+use Rattle.someipctl_audit.specs.Subjects.{about_event}
+use Rattle.someipctl_audit.specs.declared.subject.Subject.{Subject}
 use Rattle.someipctl_stats.specs.declared.shown.Lack.TheVariants as lacks
 use Rattle.someipctl_stats.specs.declared.shown.Shown.{Shown}
 use Rattle.someipctl_stats.specs.declared.shown.Shown.TheVariants as shown

@@ -10,7 +10,7 @@ use Rattle.someipctl_accounts.specs.Accounts.{BeginsAccount, Came, GivesAccount}
 use Rattle.someipctl_io.specs.declared.form.Form.{Form}
 use Rattle.someipctl_recordings.specs.declared.recordings.ShownRecording.{ShownRecording}
 use Rattle.someipctl_recordings.specs.Wanted.{WantedValue, ports_of, view_wanted}
-use Rattle.someipctl_recordings.specs.audit.AskedAudits.{learns}
+use Rattle.someipctl_audit.specs.AskedAudits.{learns}
 use Rattle.someipctl_stats.specs.declared.asked.StatsAsked.{StatsAsked}
 use Rattle.someipctl_stats.specs.declared.counting.Counting.{Counting}
 use Rattle.someipctl_stats.specs.Counting.{CountsDue, HearsSo}

@@ -3,7 +3,7 @@ ghost use Rattle.std.specs.Prelude.{◌≡◌, ◌<◌, IfErr, IfOk, None, OnErr
 ghost use Rattle.recording_packets.specs.View.{view_chosen};
 ghost use Rattle.someipctl_io.specs.declared.Fault.TheVariants.{CannotRead};
 ghost use Rattle.someipctl_io.specs.Sending.{Sends, Stops};
-ghost use Rattle.someipctl_recordings.specs.audit.Scenes.{view_seen};
+ghost use Rattle.someipctl_audit.specs.Scenes.{view_seen};
 ghost use Rattle.someipctl_stats.specs.StatsAccount.{BeginsStats, ShowsStats, audit_before, of_sessions, stats_text, view_asked};
 
 use crate::asked::StatsAsked;
@@ -17,8 +17,8 @@ use someip_audit::{Audit, AuditRules, Finding};
 use someip_reassembly::Reassembly;
 use someip_tables::Moment;
 use someipctl_accounts::{Account, give_account};
+use someipctl_audit::{SeenDatagram, watch_of};
 use someipctl_io::{Buffer, CannotWrite, Form, PrintFault};
-use someipctl_recordings::audit::{SeenDatagram, watch_of};
 use someipctl_recordings::{ShownRecording, StoppedAt};
 use std::alloc::{AllocError, Global};
 use std::io::{Read, Write};

@@ -4,7 +4,7 @@ ghost use Rattle.std.specs.List.{flat_map};
 ghost use Rattle.someip_wire.specs.View.{view, view_item};
 ghost use Rattle.someip_wire.specs.Reading.{items_of};
 ghost use Rattle.someipctl_recordings.specs.Wanted.{view_wanted};
-ghost use Rattle.someipctl_recordings.specs.audit.Scenes.{view_seen};
+ghost use Rattle.someipctl_audit.specs.Scenes.{view_seen};
 ghost use Rattle.someipctl_stats.specs.Counting.{CountsDue, HearsSo, after_facts, due_facts, item_facts, message_facts, shown_facts, with_finding, with_findings};
 
 use crate::lacks::Lacks;
@@ -17,9 +17,9 @@ use someip_reassembly::Reassembly;
 use someip_tables::Moment;
 use someip_tables::hashed::Origin;
 use someip_wire::{Message, Messages, WireError};
+use someipctl_audit::subject::{Subject, is_told};
+use someipctl_audit::{SeenDatagram, origin_of_due, time_at};
 use someipctl_recordings::Wanted;
-use someipctl_recordings::audit::subject::{Subject, is_told};
-use someipctl_recordings::audit::{SeenDatagram, origin_of_due, time_at};
 use std::alloc::{AllocError, Global};
 
 /// What is counted of a recording so far.

@@ -6,8 +6,8 @@ ghost use Rattle.someipctl_stats.specs.LackLines.{lack_fields, lack_name, lack_t
 
 use crate::lacks::Lacks;
 use crate::shown::Lack;
+use someipctl_audit::put_headless;
 use someipctl_io::{Buffer, CannotWrite, Field, Form, Said};
-use someipctl_recordings::audit::put_headless;
 use someipctl_recordings::heads::field_of;
 use std::io::Write;
 

@@ -21,7 +21,7 @@ ghost use Rattle.someipctl_io.specs.declared.form.Form.{Form};
 ghost use Rattle.someipctl_io.specs.declared.form.Form.TheVariants.{Json, Plain};
 ghost use Rattle.someipctl_io.specs.ToldLines.{line_text};
 ghost use Rattle.someipctl_recordings.specs.Wanted.{WantedValue};
-ghost use Rattle.someipctl_recordings.specs.audit.Subjects.{subject, subject_of_due};
+ghost use Rattle.someipctl_audit.specs.Subjects.{subject, subject_of_due};
 ghost use Rattle.someipctl_show.specs.VerdictForms.{no_head};
 ghost use Rattle.someipctl_stats.specs.declared.shown.Shown.TheVariants as shown;
 ghost use Rattle.someipctl_stats.specs.Counting.{after_facts, shown_facts};

@@ -9,8 +9,8 @@ ghost use Rattle.someipctl_stats.specs.StatsLines.{full_line, full_name, method_
 
 use crate::times::{Times, said_of_time, times_of};
 use audit_stats::{DiscoveryFigures, EventFigures, Flow, Full, MethodFigures, Way};
+use someipctl_audit::put_headless;
 use someipctl_io::{Buffer, CannotWrite, Field, Form, Said};
-use someipctl_recordings::audit::put_headless;
 use someipctl_recordings::heads::field_of;
 use std::io::Write;
 

@@ -8,7 +8,7 @@ use audit_traffic::events::EventFlow;
 use audit_traffic::sequence;
 use someip_audit::{FellDue, Finding};
 use someip_tables::hashed::Origin;
-use someipctl_recordings::audit::subject::Subject;
+use someipctl_audit::subject::Subject;
 
 /// What the audit shows to the figures.
 #[derive(Clone, Copy)]

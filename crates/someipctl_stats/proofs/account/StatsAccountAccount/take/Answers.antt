@@ -1,7 +1,7 @@
 use Rattle.std.proofs.Common.{◌≡◌, ◌∙◌, ap, inl, not, sym}
 use Rattle.someipctl_accounts.specs.Accounts.{view_came}
 use Rattle.someipctl_io.proofs.SendingLemmas.{OnErr-any, Sends-nil}
-use Rattle.someipctl_recordings.specs.audit.Scenes.{view_seen}
+use Rattle.someipctl_audit.specs.Scenes.{view_seen}
 use Rattle.someipctl_stats.specs.StatsAccount.{audit_before, view_asked}
 use Rattle.someipctl_stats.proofs.AccountLemmas.{begun, stood, takes_so}
 use Rattle.someipctl_stats.proofs.account.StatsAccountAccount.take.Goals.{then-is_none+in_ok-begin, else-is_none}

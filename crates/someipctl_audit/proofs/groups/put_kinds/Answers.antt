@@ -1,0 +1,14 @@
+use Rattle.std.proofs.Common.{ap}
+use Rattle.std.proofs.lemmas.List.{drop_more}
+use Rattle.someipctl_io.proofs.SendingLemmas.{OnErr-any, IsSending-more, IsSending-stop}
+use Rattle.someipctl_audit.specs.Groupings.{grouped_lines}
+use Rattle.someipctl_audit.proofs.groups.put_kinds.Goals as goal
+
+pub returns-in_err-put_groups_of-clause-err : goal.returns-in_err-put_groups_of-clause-err
+returns-in_err-put_groups_of-clause-err g c =
+    OnErr-any c.from_residual.result
+    (IsSending-stop _ _ _ _ _ _ _ _ _ c.loop-kind.invariant (ap (grouped_lines c.args.form c.args.groups.now) (drop_more c.args.kinds.now c.loop-kind.kind-index _ c.loop-kind-test.true)) c.in_err-put_groups_of.ensures.err)
+
+pub loop-kind-preserved : goal.loop-kind-preserved
+loop-kind-preserved g c =
+    IsSending-more _ _ _ _ _ _ _ _ _ _ c.loop-kind.invariant (ap (grouped_lines c.args.form c.args.groups.now) (drop_more c.args.kinds.now c.loop-kind.kind-index _ c.loop-kind-test.true)) c.in_ok-put_groups_of.ensures.ok

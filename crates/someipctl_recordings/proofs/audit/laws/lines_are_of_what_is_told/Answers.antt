@@ -1,5 +1,0 @@
-use Rattle.someipctl_recordings.proofs.about_audit.SeenLemmas.{lines_are_of_told}
-use Rattle.someipctl_recordings.proofs.audit.laws.lines_are_of_what_is_told.Goals as goal
-
-pub returns : goal.returns
-returns c asked arrivals reports alone = lines_are_of_told asked arrivals reports alone
