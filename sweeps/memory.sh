@@ -2,39 +2,26 @@
 #
 # `sweeps/run memory` refuses growths of memory one after the other, by `sweeps/refused_growths.c`, a few lines of C
 # that it builds and loads before a program. It counts calls of the C library's allocator, so the memory of the
-# program's start and of its words counts too.
+# program's start and of its words counts too. The script counts upwards until a run meets no refusal.
 #
-# `someipctl_trials memory SWEEP again|left-out|bare` does the calls of one kind, its *acts*, three times in one
-# process, each time with a new subject:
+# The tests of `crates/tests_layers` are rows of acts with their answers (`src/acts.rt`). A test does the acts of its
+# tables, each table with a new subject, and where one of them is refused memory it is judged (`src/judging.rt`): that act
+# answers that memory ran out, and nothing else. Then it is done once more, and it and all after it answer what their rows
+# say; or, with `LEFT_OUT` in the environment, all after it answer what another subject answers with which that act was
+# never done. So a refused act leaves all as it was. At last the table is tried once more: nothing was left in the process.
+# The test prints `refused` then, or `unjudged` where a growth was refused outside of all acts. Answers are written to room
+# that is taken before the first act, so that writing them takes none. These tests are swept:
 #
-# 1. for the answers that are expected. A growth that is refused here ends the run, and nothing is judged;
-# 2. to be judged. Each act answers what is expected, up to the one that is refused memory: that one answers
-#    `OutOfMemory`, and nothing else. Then, with `again`, it is done once more, and it and all after it answer what is
-#    expected; with `left-out` all after it answer what another subject answers with which that act was never done. So
-#    a refused act leaves all as it was. A node that was refused memory has failed instead: it gives nothing, answers
-#    `Failed` to every other call, is started again, and then does all from the first act as a new node does;
-# 3. once more, as expected: nothing was left in the process.
+#   `segment_lists`, `interval_pools`: `make`, `offer`, `take`, `expire`, `clear`
+#   `calls_that_take_memory` of payloads: `read_shape`, `check_shape`, `decode`, `encode`, `read_value`, texts, names
+#   `messages` of Service Discovery: `read_sd`, `write_sd`, `split_entries`
+#   `segments_and_pieces`: what is appended
+#   `sessions_and_peers`: `PeerTable::saw`
+#   `offers`, `finds_and_known_offers`, `subscriptions_at_a_server`, `subscriptions_of_a_client`: every call that changes
+#     the tables of Service Discovery
+#   `calls_and_their_answers`, `requests_and_events`: every call that changes a `ClientCore` or a `ServerCore`
 #
-# Answers are compared as texts, which are written to room that is taken before the first act, so that writing them
-# takes none. The script counts upwards until a run meets no refusal. Some calls ask for memory a second time where
-# the first is refused (a list that is collected asks for the room of all that comes, and where that is refused for
-# that of one element), and go on; where a run does not differ although a growth was refused, up to five after it are
-# refused with it.
-#
-#   `wire`: messages read and written, datagrams, segments and pieces: no act takes memory
-#   `segment-list`, `interval-pool`: `make`, `offer`, `take`, `expire`, `clear`
-#   `payloads`: `read_shape`, `check_shape`, `decode`, `encode`
-#   `messages`: `read_sd`, `write_sd`, `split_entries`
-#   `sessions`: `PeerTable::saw`, `Counter::next`
-#   `offers`, `seeker`, `subscribers`, `subscriptions`: every call that changes the tables of Service Discovery
-#   `client`, `server`: every call that changes a `ClientCore` or a `ServerCore`
-#   `server-node`, `client-node`: every call of a node that gives outputs or begins its life, among them the worked
-#     run at both of its nodes
-#   `runs`: `Setup::read`, `read_schedule`, and `run` over both bodies of reassembly
-#
-# The last acts of each sweep are those that take no memory, as their contracts promise or their definitions say: with
-# `bare` they are left out, and else all is as with `again`, and the script finds as many growths without them as with
-# them.
+# A node that was refused memory fails instead: `sweeps/memory_node.c` says how it is judged, over the library for C.
 #
 # The program itself runs `show`, without a types file and with one, `recording --whole --types`, `audit`, both of these
 # over copies, fragments and several files, `payload`, `encode`, `vectors`, `run`, alone and beside a trace, `chart`,
@@ -44,15 +31,19 @@
 # How many growths of a call are such stands with the call, so that an error of memory that nobody tells is found. The
 # recordings of an audit are such that another growth comes after those of its indexes.
 #
-# The gate runs each sweep once with nothing refused: `memory all again`, before the words of the other sweeps.
+# The gate runs each test once with nothing refused.
 #
-# Some calls ask for memory a second time where the first is refused, and go on. So where a run does not differ although
+# Some calls ask for memory a second time where the first is refused (a list that is collected asks for the room of all that
+# comes, and where that is refused for that of one element), and go on. So where a run does not differ although
 # a growth was refused, the next ones are refused with it, up to this many.
 most_in_a_row=6
 
-# What it sweeps; of the nodes an act cannot be left out, since a node that was refused memory fails.
-kinds="wire segment-list interval-pool payloads messages sessions offers seeker subscribers subscriptions client server runs"
-kinds_of_nodes="server-node client-node"
+# The tests that it sweeps.
+swept="of_someip_tp::store::segment_lists of_someip_tp::store::interval_pools of_someip_tp::segments::segments_and_pieces
+    of_someip_payload::calls_that_take_memory of_sd_wire::messages of_sd_session::sessions_and_peers
+    of_sd_core::offers::offers of_sd_core::seeker::finds_and_known_offers
+    of_sd_core::subscribers::subscriptions_at_a_server of_sd_core::subscriptions::subscriptions_of_a_client
+    of_someip_rpc::client::calls_and_their_answers of_someip_rpc::server::requests_and_events"
 
 # Calls a program whose growth $1 is refused, and the ones after it, $2 in all. Keeps the exit status, what came on
 # standard output and standard error, and how many growths there were.
@@ -95,34 +86,33 @@ tell_growth() {
     echo "$part: $1, growth $growth ($row refused): $2"
 }
 
-# Refuses each growth of the sweep of the kind $1 in turn, and does the act that was refused memory again, or leaves it
-# out, as $2 says.
-sweep_kind() {
-    echo unrefused >"$scratch/unrefused"
+# Refuses each growth of the test $1 in turn, and does the act that was refused memory again, or leaves it out, as $2 says.
+sweep_test() {
+    if [ "$2" = left-out ]; then export LEFT_OUT=1; else unset LEFT_OUT; fi
+    call_refused 0 1 "$tests_program" "$1"
+    cp "$scratch/out" "$scratch/unrefused"
+    [ "$status" = 0 ] || tell_growth "$1 $2" "nothing was refused, status $status"
     growth=1
     while :; do
-        call_until_refused "$growth" "$scratch/unrefused" 0 "$trials_program" memory "$1" "$2"
+        call_until_refused "$growth" "$scratch/unrefused" 0 "$tests_program" "$1"
         [ "$seen" -ge "$growth" ] || break
         growths=$((growths + 1))
-        came=$(cat "$scratch/out")
-        case "$status $came" in
-        "0 refused "*) judged=$((judged + 1)) ;;
-        "3 " | "0 unjudged") ;;
-        *) tell_growth "$1 $2" "status $status, $came" ;;
+        case "$status $(cat "$scratch/out")" in
+        "0 refused"*) judged=$((judged + 1)) ;;
+        "0 unjudged"*) ;;
+        *) tell_growth "$1 $2" "status $status, $(tail -n 1 "$scratch/err")" ;;
         esac
         growth=$((growth + 1))
     done
-    [ "$status $(cat "$scratch/out")" = "0 unrefused" ] || tell_growth "$1 $2" "nothing was refused, status $status, $(cat "$scratch/out")"
+    unset LEFT_OUT
 }
 
-# The acts that take no memory meet no growth: with them there are as many as without them.
-sweep_without_memory() {
-    call_refused 0 1 "$trials_program" memory "$1" again
-    whole=$seen
-    call_refused 0 1 "$trials_program" memory "$1" bare
-    growth=0
-    row=0
-    [ "$whole" = "$seen" ] || tell_growth "$1" "$whole growths with the acts that take no memory, $seen without them"
+# Refuses each growth of two nodes in turn.
+sweep_nodes() {
+    (cd "$here/crates/someip_c" && cc -O1 -Iinclude -o "$scratch/memory_node" "$here/sweeps/memory_node.c" out/libsomeip_c.a) &&
+        "$scratch/memory_node" >"$scratch/out" || findings=$((findings + 1))
+    grep '^memory: ' "$scratch/out"
+    eval "$(sed -nE 's/^([0-9]+) ([0-9]+)$/growths=$((growths + \1)) judged=$((judged + \2))/p' "$scratch/out")"
 }
 
 # Whether the text of the file $1 is a beginning of that of the file $2.
@@ -162,15 +152,11 @@ sweep_memory() {
     growths=0
     judged=0
     cc -O1 -shared -fPIC -o "$scratch/refused_growths.so" "$here/sweeps/refused_growths.c" || return 1
-    for kind in $kinds; do
-        sweep_kind "$kind" again
-        sweep_kind "$kind" left-out
-        sweep_without_memory "$kind"
+    for test in $swept; do
+        sweep_test "$test" again
+        sweep_test "$test" left-out
     done
-    for kind in $kinds_of_nodes; do
-        sweep_kind "$kind" again
-        sweep_without_memory "$kind"
-    done
+    sweep_nodes
     sweep_program 1 show "$examples/segments.txt"
     sweep_program 1 show --types "$examples/types.toml" "$examples/speed.txt"
     sweep_program 1 recording --whole --types "$examples/types.toml" "$examples/route.pcap"

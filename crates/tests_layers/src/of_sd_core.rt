@@ -1,36 +1,16 @@
-//! Rows of the tables of Service Discovery.
-//!
-//! A row is a moment, in milliseconds, and an act: a call of a table, and what has to come of it. Each call
-//! has a function of its own, so that the prover meets one call at a time. Hosts are told by the last byte
-//! of their address.
-use sd_core::{InstanceId, Phases};
-use sd_wire::SubscriptionCounter;
+//! Rows of the tables of Service Discovery. An instance is told by its number, of the service 1111, and a host by the
+//! last byte of its address, 192.168.0.n.
+use crate::acts::Told;
+use sd_core::{Eventgroup, InstanceId, Phases};
 use std::alloc::AllocError;
+use std::fmt;
+use std::fmt::{Debug, Write};
 use std::net::{Ipv4Addr, SocketAddrV4};
 
 mod offers;
-mod reboots;
 mod seeker;
 mod subscribers;
 mod subscriptions;
-
-/// The instance 1 of the service 1111.
-const FIRST: InstanceId = InstanceId {
-    service: 0x1111,
-    instance: 1,
-};
-
-/// The instance 2 of that service.
-const SECOND: InstanceId = InstanceId {
-    service: 0x1111,
-    instance: 2,
-};
-
-/// The instance 3 of that service.
-const THIRD: InstanceId = InstanceId {
-    service: 0x1111,
-    instance: 3,
-};
 
 /// Three repetitions: base 30, cyclic 1000.
 const THREE: Phases = Phases {
@@ -46,19 +26,10 @@ const NO_REPETITIONS: Phases = Phases {
     cyclic: 1000,
 };
 
-/// How often an Offer or a Find is repeated.
-#[derive(Clone, Copy)]
-enum Repeats {
-    Thrice,
-    Never,
-}
-
-impl Repeats {
-    fn phases(self) -> Phases {
-        match self {
-            Repeats::Thrice => THREE,
-            Repeats::Never => NO_REPETITIONS,
-        }
+fn instance(number: u16) -> InstanceId {
+    InstanceId {
+        service: 0x1111,
+        instance: number,
     }
 }
 
@@ -72,19 +43,41 @@ fn endpoint(host: u8, port: u16) -> SocketAddrV4 {
     SocketAddrV4::new(address(host), port)
 }
 
-/// A port of a host, if there is one.
-fn endpoint_at(host: u8, port: Option<u16>) -> Option<SocketAddrV4> {
-    Some(endpoint(host, port?))
+/// The same, where there is a port.
+fn endpoint_at(host: u8, port: u16) -> Option<SocketAddrV4> {
+    if port == 0 {
+        None
+    } else {
+        Some(endpoint(host, port))
+    }
 }
 
-fn counter(number: u8) -> Option<SubscriptionCounter> {
-    SubscriptionCounter::new(number)
-}
-
-/// Whether a table answers these instances, in this order.
-fn are_instances(answer: Result<Vec<InstanceId>, AllocError>, wanted: &[InstanceId]) -> bool {
+/// Writes down the numbers of instances, or the refusal.
+fn tell_instances(told: &mut Told, answer: &Result<Vec<InstanceId>, AllocError>) -> fmt::Result {
     match answer {
-        Ok(instances) => instances.as_slice() == wanted,
-        Err(_) => false,
+        Ok(instances) => tell_numbers(told, instances),
+        Err(refusal) => write!(told, "{refusal:?}"),
+    }
+}
+
+fn tell_numbers(told: &mut Told, instances: &[InstanceId]) -> fmt::Result {
+    for (place, instance) in instances.iter().enumerate() {
+        let comma = if place == 0 { "" } else { " " };
+        write!(told, "{comma}{}", instance.instance)?;
+    }
+    Ok(())
+}
+
+/// Writes down eventgroups by their instances and numbers, or the refusal.
+fn tell_groups(told: &mut Told, answer: &Result<Vec<Eventgroup>, AllocError>) -> fmt::Result {
+    match answer {
+        Ok(groups) => {
+            for (place, group) in groups.iter().enumerate() {
+                let comma = if place == 0 { "" } else { " " };
+                write!(told, "{comma}{}/{}", group.instance.instance, group.id)?;
+            }
+            Ok(())
+        }
+        Err(refusal) => write!(told, "{refusal:?}"),
     }
 }

@@ -1,176 +1,296 @@
-//! The worked rows of discovery messages.
-use crate::rows::{Row, check};
-use bitflags::Flags;
-use entries::{eventgroup_entry, service_entry};
-use sd_wire::{
-    EventgroupEntry, EventgroupKind, SdFlags, ServiceEntry, ServiceKind, SubscriptionCounter, Ttl,
-    laws,
+//! Rows of discovery messages.
+//!
+//! `read HEX` tells the flags and what the entries are, or the fault, and keeps the good ones in place of those that it
+//! had; `fronts HEX` tells how many fronts of the bytes are refused as truncated at their end. `write FLAGS` tells the
+//! message of the entries, and leaves what stands before it; `options` those of the last entry, `endpoint` its first UDP
+//! endpoint. `split` tells the lengths of the fronts that fit into a message. `ttl SECONDS`, `counter NUMBER` and `raw
+//! KIND LENGTH` (an option of so many zero bytes) tell whether there is such a value.
+//!
+//! After `none` there are no entries. They are added by `offer`, without options; by `numbered FIRST COUNT`, an Offer with so many options of type 77,
+//! whose bytes are numbers from one on; by `ports COUNT`, so many Offers, each at a port of its own; and by `copies
+//! COUNT`, so many of the last entry. Its first run gets a numbered option more by `more NUMBER`, and one of so many zero
+//! bytes by `zeros LENGTH`. `index PLACE` is a byte of the message that is written.
+use crate::acts::{Act, Subject, Told, tell, tell_bytes};
+use crate::judging::try_tables;
+use rows::{
+    BAD_RUNS, EMPTY_RUNS, FAULTY, FIELDS, INDICES, KINDS, LONGEST, OPTIONS, RAW, REACHED, RESERVED,
+    RUNS, SHARED, TWICE_FAULTY, UNFIT, WORKED,
 };
-use std::alloc::Global;
+use sd_wire::{
+    Entry, EntryHead, Ipv4Endpoint, Protocol, RawOption, ReadEntry, SdError, SdFlags, SdMessage,
+    SdOption, SdRead, ServiceEntry, ServiceKind, SubscriptionCounter, Ttl, read_sd, split_entries,
+    write_sd,
+};
+use std::alloc::{AllocError, Global};
+use std::fmt;
+use std::fmt::Write;
+use std::net::{Ipv4Addr, SocketAddrV4};
+use std::rc::Rc;
 
-mod entries;
-mod reading;
-mod splitting;
-mod writing;
+mod rows;
 
-/// An Offer of 1111.0001 at 192.168.0.1:30509 over UDP.
-const OFFER: [u8; 40] = [
-    0xc0, 0, 0, 0, 0, 0, 0, 0x10, 0x01, 0, 0, 0x10, 0x11, 0x11, 0, 0x01, 0x01, 0, 0, 0x03, 0, 0, 0,
-    0, 0, 0, 0, 0x0c, 0, 0x09, 0x04, 0, 0xc0, 0xa8, 0, 0x01, 0, 0x11, 0x77, 0x2d,
-];
-
-/// A Subscribe of 1111.0001, eventgroup 0001, by 192.168.0.2:40001 over UDP.
-const SUBSCRIBE: [u8; 40] = [
-    0xc0, 0, 0, 0, 0, 0, 0, 0x10, 0x06, 0, 0, 0x10, 0x11, 0x11, 0, 0x01, 0x01, 0, 0, 0x03, 0, 0, 0,
-    0x01, 0, 0, 0, 0x0c, 0, 0x09, 0x04, 0, 0xc0, 0xa8, 0, 0x02, 0, 0x11, 0x9c, 0x41,
-];
-
-/// The Ack that answers it.
-const ACK: [u8; 28] = [
-    0xc0, 0, 0, 0, 0, 0, 0, 0x10, 0x07, 0, 0, 0, 0x11, 0x11, 0, 0x01, 0x01, 0, 0, 0x03, 0, 0, 0,
-    0x01, 0, 0, 0, 0,
-];
-
-#[test]
-fn laws_hold() {
-    laws::bytes_hold_one_message_or_a_fault();
-    laws::no_option_is_found_where_none_begins();
-    laws::a_message_has_one_text();
-    laws::what_is_written_is_read();
-    laws::a_message_has_its_bytes();
-    laws::entries_have_their_fronts();
-    laws::a_front_fits_under_any_flags();
-    laws::small_entries_fit_alone();
-    laws::options_are_told_by_their_numbers();
-    laws::constants();
-    laws::worked_messages();
+/// Entries, and the bytes that they were written to.
+#[derive(Drop)]
+struct Discovery {
+    alloc: Global,
+    entries: Vec<Entry>,
+    out: Vec<u8>,
 }
 
-/// A number of seconds: whether it lasts until the next reboot, if it has room in a TTL.
-struct Seconds(u32, Option<bool>);
+impl Subject for Discovery {
+    fn make(alloc: Global) -> Result<Discovery, AllocError> {
+        Ok(Discovery {
+            alloc,
+            entries: Vec::new(alloc),
+            out: Vec::new(alloc),
+        })
+    }
 
-impl Row for Seconds {
-    fn is_right(&self, _alloc: Global) -> Option<bool> {
-        let Seconds(seconds, wanted) = *self;
-        match (Ttl::new(seconds), wanted) {
-            (Some(ttl), Some(is_until_reboot)) => Some(
-                ttl.seconds() == seconds && ttl.is_until_reboot() == is_until_reboot,
-            ),
-            (None, None) => Some(true),
-            _ => Some(false),
+    fn perform(&mut self, act: &Act<'_>, told: &mut Told) -> fmt::Result {
+        let count = act.short(0);
+        match act.verb {
+            "read" | "fronts" => self.take_bytes(act, told),
+            "write" => self.write(act.byte(0), told),
+            "index" => self.tell_byte(act.word(0) as usize, told),
+            "options" | "endpoint" => self.tell_last(act.verb, told),
+            "split" => tell(told, &split_entries(self.alloc, &self.entries)),
+            "ttl" => tell_ttl(told, act.word(0)),
+            "counter" => write!(told, "{:?}", counter(act.byte(0))),
+            "raw" => {
+                let option = raw(self.alloc, act.byte(0), act.word(1) as usize);
+                write!(told, "{}", option.is_some())
+            }
+            "none" => {
+                self.entries = Vec::new(self.alloc);
+                Ok(())
+            }
+            "offer" => done(self.add(0, 0)),
+            "numbered" => done(self.add(count, act.short(1))),
+            "more" => done(self.put(numbered(self.alloc, count))),
+            "zeros" => done(self.put(zeros(self.alloc, act.word(0) as usize))),
+            "ports" => done(self.add_ports(count)),
+            "copies" => done(self.add_copies(count)),
+            _ => Err(fmt::Error),
         }
     }
 }
 
-const SECONDS: &[Seconds] = &[
-    Seconds(3, Some(false)),
-    Seconds(0xff_ffff, Some(true)),
-    Seconds(0x100_0000, None),
-];
-
-/// A number, and whether it has room in a counter.
-struct Counted(u8, bool);
-
-impl Row for Counted {
-    fn is_right(&self, _alloc: Global) -> Option<bool> {
-        let Counted(number, is_some) = *self;
-        match SubscriptionCounter::new(number) {
-            Some(counter) => Some(is_some && counter.number() == number),
-            None => Some(!is_some),
+impl Discovery {
+    fn take_bytes(&mut self, act: &Act<'_>, told: &mut Told) -> fmt::Result {
+        let Ok(bytes) = hex::decode(self.alloc, act.rest) else {
+            return write!(told, "OutOfMemory");
+        };
+        if act.verb == "fronts" {
+            return tell_fronts(self.alloc, &bytes, told);
+        }
+        match read_sd(self.alloc, &bytes) {
+            Ok(read) => self.keep(read, told),
+            Err(fault) => write!(told, "{fault:?}"),
         }
     }
-}
 
-const COUNTED: &[Counted] = &[Counted(15, true), Counted(16, false)];
+    /// Keeps the good entries, and writes down what was read; or all stays as it was.
+    fn keep(&mut self, read: SdRead, told: &mut Told) -> fmt::Result {
+        let Ok(mut entries) = Vec::with_capacity(self.alloc, read.entries.len()) else {
+            return write!(told, "OutOfMemory");
+        };
+        write!(told, "{:02x}", read.flags.byte())?;
+        for entry in read.entries {
+            match entry {
+                ReadEntry::Good(entry) => {
+                    write!(told, " {}", kind_of(&entry.head))?;
+                    let _ = entries.push(entry);
+                }
+                ReadEntry::BadRun(_) => write!(told, " bad run")?,
+            }
+        }
+        self.entries = entries;
+        Ok(())
+    }
 
-/// The byte of flags, Reboot and Unicast.
-struct Bits(u8, bool, bool);
+    /// Writes the entries behind a byte, if a message has room for so many.
+    fn pack(&mut self, flags: u8) -> Result<(), SdError> {
+        self.out.clear();
+        self.out.push(0xee)?;
+        if self.entries.len() > 65535 {
+            return Ok(());
+        }
+        let message = SdMessage {
+            flags: SdFlags::from_byte(flags),
+            entries: &self.entries,
+        };
+        write_sd(&message, &mut self.out)
+    }
 
-impl Row for Bits {
-    fn is_right(&self, _alloc: Global) -> Option<bool> {
-        let Bits(byte, reboot, unicast) = *self;
-        let flags = SdFlags { reboot, unicast };
-        let is_byte = flags.byte() == byte && SdFlags::from_byte(byte | 0x3f) == flags;
-        let is_reboot = flags.contains(SdFlags::REBOOT) == reboot;
-        let is_unicast = flags.contains(SdFlags::UNICAST) == unicast;
-        Some(is_byte && is_reboot && is_unicast)
+    fn write(&mut self, flags: u8, told: &mut Told) -> fmt::Result {
+        let packed = self.pack(flags);
+        match (packed, self.out.as_slice()) {
+            (Ok(()), [0xee, bytes @ ..]) => tell_bytes(told, bytes),
+            (Err(fault), [0xee] | []) => write!(told, "{fault:?}"),
+            _ => Err(fmt::Error),
+        }
+    }
+
+    fn tell_byte(&mut self, place: usize, told: &mut Told) -> fmt::Result {
+        match (self.pack(0xc0), self.out.get(place.saturating_add(1))) {
+            (Ok(()), Some(byte)) => write!(told, "{byte:02x}"),
+            _ => Err(fmt::Error),
+        }
+    }
+
+    fn tell_last(&self, verb: &str, told: &mut Told) -> fmt::Result {
+        match (self.entries.last(), verb) {
+            (Some(entry), "options") => write!(told, "{:?} {:?}", entry.run1, entry.run2),
+            (Some(entry), _) => match entry.udp_endpoint() {
+                Some(endpoint) => write!(told, "{endpoint}"),
+                None => write!(told, "none"),
+            },
+            (None, _) => Err(fmt::Error),
+        }
+    }
+
+    /// Adds an Offer with so many numbered options.
+    fn add(&mut self, first: u16, count: u16) -> Option<()> {
+        self.entries.push(bare(self.alloc)?).ok()?;
+        for number in 0..count {
+            self.put(numbered(self.alloc, first.checked_add(number)?))?;
+        }
+        Some(())
+    }
+
+    /// Puts an option into the first run of the last entry.
+    fn put(&mut self, option: Option<SdOption>) -> Option<()> {
+        self.entries.last_mut()?.run1.push(option?).ok()
+    }
+
+    fn add_ports(&mut self, count: u16) -> Option<()> {
+        for port in 0..count {
+            self.entries.push(bare(self.alloc)?).ok()?;
+            self.put(Some(SdOption::Endpoint4(Ipv4Endpoint {
+                socket: SocketAddrV4::new(Ipv4Addr::new(192, 168, 0, 1), port),
+                protocol: Protocol::UDP,
+            })))?;
+        }
+        Some(())
+    }
+
+    fn add_copies(&mut self, count: u16) -> Option<()> {
+        for _ in 0..count {
+            let copy = copied(self.alloc, self.entries.last()?)?;
+            self.entries.push(copy).ok()?;
+        }
+        Some(())
     }
 }
 
-const BITS: &[Bits] = &[
-    Bits(0, false, false),
-    Bits(0x40, false, true),
-    Bits(0x80, true, false),
-    Bits(0xc0, true, true),
-];
-
-/// A service entry by its kind and its TTL: whether it is a Find, an Offer, a StopOffer.
-struct ServiceTold(ServiceKind, u32, [bool; 3]);
-
-impl Row for ServiceTold {
-    fn is_right(&self, _alloc: Global) -> Option<bool> {
-        let ServiceTold(kind, ttl, wanted) = self;
-        let entry = service_entry(*kind, *ttl, 0)?;
-        Some(service_told(&entry) == *wanted)
+/// What an entry is.
+fn kind_of(head: &EntryHead) -> &'static str {
+    match head {
+        EntryHead::Service(entry) if entry.is_find() => "find",
+        EntryHead::Service(entry) if entry.is_offer() => "offer",
+        EntryHead::Service(entry) if entry.is_stop_offer() => "stop-offer",
+        EntryHead::Eventgroup(entry) if entry.is_subscribe() => "subscribe",
+        EntryHead::Eventgroup(entry) if entry.is_stop_subscribe() => "stop-subscribe",
+        EntryHead::Eventgroup(entry) if entry.is_ack() => "ack",
+        EntryHead::Eventgroup(entry) if entry.is_nack() => "nack",
+        _ => "nothing",
     }
 }
 
-fn service_told(entry: &ServiceEntry) -> [bool; 3] {
-    [entry.is_find(), entry.is_offer(), entry.is_stop_offer()]
+fn tell_fronts(alloc: Global, bytes: &[u8], told: &mut Told) -> fmt::Result {
+    let mut count = 0;
+    for len in 0..bytes.len() {
+        let front = bytes.get(..len).unwrap_or(bytes);
+        match read_sd(alloc, front) {
+            Err(SdError::Truncated(place)) if place == len => count = len,
+            _ => return write!(told, "{len}"),
+        }
+    }
+    write!(told, "all to {count}")
 }
 
-const SERVICES_TOLD: &[ServiceTold] = &[
-    ServiceTold(ServiceKind::Find, 0, [true, false, false]),
-    ServiceTold(ServiceKind::Find, 3, [true, false, false]),
-    ServiceTold(ServiceKind::Offer, 0, [false, false, true]),
-    ServiceTold(ServiceKind::Offer, 3, [false, true, false]),
-];
-
-/// An eventgroup entry by its kind and its TTL: whether it is a Subscribe, a StopSubscribe, an Ack, a
-/// Nack.
-struct EventgroupTold(EventgroupKind, u32, [bool; 4]);
-
-impl Row for EventgroupTold {
-    fn is_right(&self, _alloc: Global) -> Option<bool> {
-        let EventgroupTold(kind, ttl, wanted) = self;
-        let entry = eventgroup_entry(*kind, *ttl, 0)?;
-        Some(eventgroup_told(&entry) == *wanted)
+fn tell_ttl(told: &mut Told, seconds: u32) -> fmt::Result {
+    match Ttl::new(seconds) {
+        Some(ttl) => write!(told, "{} {}", ttl.seconds(), ttl.is_until_reboot()),
+        None => write!(told, "none"),
     }
 }
 
-fn eventgroup_told(entry: &EventgroupEntry) -> [bool; 4] {
-    [
-        entry.is_subscribe(),
-        entry.is_stop_subscribe(),
-        entry.is_ack(),
-        entry.is_nack(),
-    ]
+/// The number of the counter with this number.
+fn counter(number: u8) -> Option<u8> {
+    Some(SubscriptionCounter::new(number)?.number())
 }
 
-const EVENTGROUPS_TOLD: &[EventgroupTold] = &[
-    EventgroupTold(EventgroupKind::Subscribe, 0, [false, true, false, false]),
-    EventgroupTold(EventgroupKind::Subscribe, 3, [true, false, false, false]),
-    EventgroupTold(EventgroupKind::Ack, 0, [false, false, false, true]),
-    EventgroupTold(EventgroupKind::Ack, 3, [false, false, true, false]),
-];
+/// An act that adds something.
+fn done(added: Option<()>) -> fmt::Result {
+    added.ok_or(fmt::Error)
+}
 
-/// The constants of TTLs and of flags.
-fn are_constants() -> bool {
-    let all = SdFlags {
-        reboot: true,
-        unicast: true,
+/// An Offer of 1111.0001 without options, for 3 seconds.
+fn bare(alloc: Global) -> Option<Entry> {
+    Some(Entry {
+        head: EntryHead::Service(ServiceEntry {
+            kind: ServiceKind::Offer,
+            service: 0x1111,
+            instance: 1,
+            major: 1,
+            ttl: Ttl::new(3)?,
+            minor: 0,
+        }),
+        run1: Vec::new(alloc),
+        run2: Vec::new(alloc),
+    })
+}
+
+/// The same entry with the options of its first run.
+fn copied(alloc: Global, entry: &Entry) -> Option<Entry> {
+    let mut copy = Entry {
+        head: entry.head,
+        run1: Vec::new(alloc),
+        run2: Vec::new(alloc),
     };
-    Ttl::new(0xff_ffff) == Some(Ttl::UNTIL_REBOOT)
-        && SdFlags::all() == all
-        && SdFlags::from_bits(0x20).is_none()
+    for option in &entry.run1 {
+        copy.run1.push(option.clone().ok()?).ok()?;
+    }
+    Some(copy)
+}
+
+/// An option of type 77 whose bytes are a number.
+fn numbered(alloc: Global, number: u16) -> Option<SdOption> {
+    let bytes = Vec::from_slice(alloc, &number.to_be_bytes()).ok()?;
+    let option = RawOption::new(0x77, Rc::new(alloc, bytes).ok()?)?;
+    Some(SdOption::Raw(option))
+}
+
+/// An option of so many zero bytes, if there is one.
+fn raw(alloc: Global, kind: u8, len: usize) -> Option<RawOption> {
+    let bytes = vec![in alloc; 0u8; len].ok()?;
+    RawOption::new(kind, Rc::new(alloc, bytes).ok()?)
+}
+
+fn zeros(alloc: Global, len: usize) -> Option<SdOption> {
+    Some(SdOption::Raw(raw(alloc, 1, len)?))
 }
 
 #[test]
-fn fields_and_kinds(rt: HostRuntime) {
-    check(&rt, rt.alloc(), "SECONDS", SECONDS);
-    check(&rt, rt.alloc(), "COUNTED", COUNTED);
-    check(&rt, rt.alloc(), "BITS", BITS);
-    check(&rt, rt.alloc(), "SERVICES_TOLD", SERVICES_TOLD);
-    check(&rt, rt.alloc(), "EVENTGROUPS_TOLD", EVENTGROUPS_TOLD);
-    assert!(rt; are_constants());
+fn messages(rt: HostRuntime) {
+    let tables = [
+        WORKED, KINDS, OPTIONS, SHARED, EMPTY_RUNS, RESERVED, BAD_RUNS, REACHED,
+    ];
+    try_tables::<Discovery>(&rt, &tables);
+}
+
+#[test]
+fn faults_runs_and_fronts(rt: HostRuntime) {
+    let tables = [
+        FAULTY,
+        TWICE_FAULTY,
+        FIELDS,
+        RAW,
+        RUNS,
+        INDICES,
+        LONGEST,
+        UNFIT,
+    ];
+    try_tables::<Discovery>(&rt, &tables);
 }

@@ -1,8 +1,21 @@
 //! The rows of payloads: bytes, and the values that they are read as. Bytes that are no payload are rows of the sweep
-//! `texts`.
-use crate::rows::{Row, check, is_printed};
-use someip_payload::{PayloadError, Shape, Told, Value, decode, encode, laws, read_shape};
-use std::alloc::Global;
+//! `texts` too.
+//!
+//! `read SHAPE HEX` tells how many bytes a value has, its text, and whether it is written as these bytes, or the fault.
+//! `refuse SHAPE OTHER HEX` writes a value of the other shape, and `say SHAPE TEXT` the value with this text. `plain SHAPE
+//! HEX` tells the text of a value without names. `letters SHAPE COUNT` tells how many bytes a text of so many letters has.
+//! `nested COUNT SHAPE` checks a shape inside so many arrays, `untold WHAT` one that no text says. `shape TEXT` tells the
+//! shape that a text says, `size TEXT` how deep it is and of how many shapes; `name NAME TEXT` gives it a name, and `same
+//! TEXT OTHER` compares two. `refers FROM TEXT` tells the next reference.
+use crate::acts::{Act, Subject, Told, tell, tell_bytes, tell_refusal};
+use crate::judging::try_tables;
+use someip_payload::{
+    Member, NamedShapes, Shape, Told as ToldValue, Value, Width, check_shape, decode,
+    depth_of, encode, next_reference, read_shape, read_shape_in, read_value, shapes_in,
+};
+use std::alloc::{AllocError, Global};
+use std::fmt;
+use std::fmt::Write;
 
 mod floats;
 mod limits;
@@ -11,441 +24,314 @@ mod named_shapes;
 mod shapes;
 mod tagged;
 mod value_texts;
+mod values;
 
-/// The value at the front of bytes of a shape, and how many bytes it has.
-fn value_of(alloc: Global, shape: &str, bytes: &[u8]) -> Option<(Value, usize)> {
-    let shape = read_shape(alloc, shape).ok()?;
-    decode(alloc, &shape, bytes).ok()
+/// Calls each of which takes memory.
+const MEMORY: &str = "
+read struct/16(u8,bool,i16,utf8/8,utf16/8,array/8<4,u16>,fixed<3,u8>,union(1:u8,2:utf8/8)) 00290701fffe06efbbbf68690006feff004100000400010002010203000000070000000206efbbbf686900 -> 43 (7,true,-2,\"hi\",\"A\",[1,2],[1,2,3],2:\"hi\") same
+read struct/16(u8,bool,i16,utf8/8,utf16/8,array/8<4,u16>,fixed<3,u8>,union(1:u8,2:utf8/8)) 00290701fffe06efbbbf68690006feff004100000400010002010203000000070000000206efbbbf686901 -> NoTerminator(36)
+read array/8<2,array/8<2,u8>> 050201020103 -> 6 [[1,2],[3]] same
+read tagged/8(1:u8,2?:array/8<2,u8>) 0b1009ffff50020108000107 -> 12 {7,[8]} other
+read tagged/8(1:u8,2?:array/8<2,u8>) 0450020108 -> MissingMember(0)
+shape struct(u8,array/8<2,utf8/8> -> BadShape(26)
+shape union/8/16(1:u8,2:utf8fix<8>) -> SizedUnion(W8, W16, [(1, U8), (2, FixedText(Utf8, 8))])
+nested 3 u8{0=PARK,3=DRIVE}
+say struct(a:u8,b:array/8<2,utf8/8>) (a=1,b=[\"x\"]) -> 010605efbbbf7800
+say struct(a:u8,b:array/8<2,utf8/8>) (a=1,b=[\"x\"]] -> BadValue(13)
+name speed u16
+name place struct(x:f32,y:f32)
+same array<2,@place> array<2,struct(x:f32,y:f32)> -> true
+size struct(a:@speed,b:@place) -> 3 5";
+
+/// The names of shapes.
+#[derive(Drop)]
+struct Payloads {
+    alloc: Global,
+    names: NamedShapes,
 }
 
-/// The bytes of a value.
-fn bytes_of(alloc: Global, shape: &str, value: &Value) -> Option<Vec<u8>> {
-    let shape = read_shape(alloc, shape).ok()?;
-    let mut out = Vec::new(alloc);
-    match encode(&shape, value, &mut out) {
-        Ok(()) => Some(out),
-        Err(_) => None,
-    }
-}
-
-/// Whether this text of the value is put behind what stands before it.
-fn is_put(alloc: Global, shape: &Shape, value: &Value, text: &str) -> Option<bool> {
-    let mut put = String::from_str(alloc, "value ").ok()?;
-    Told { shape, value }.put(&mut put).ok()?;
-    Some(put.as_str().strip_prefix("value ") == Some(text))
-}
-
-/// Bytes of a shape: what is read from them, how many of them, and whether the value is written as
-/// these bytes.
-struct Read(&'static str, &'static [u8], &'static str, usize, bool);
-
-impl Row for Read {
-    fn is_right(&self, alloc: Global) -> Option<bool> {
-        let (value, count) = value_of(alloc, self.0, self.1)?;
-        self.is_read_as(alloc, &value, count)
-    }
-}
-
-impl Read {
-    /// Whether the value is the one that is read from so many bytes, and is written as it should be.
-    fn is_read_as(&self, alloc: Global, value: &Value, count: usize) -> Option<bool> {
-        Some(self.is_told(alloc, value)? && count == self.3 && self.is_written(alloc, value)?)
+impl Subject for Payloads {
+    fn make(alloc: Global) -> Result<Payloads, AllocError> {
+        Ok(Payloads {
+            alloc,
+            names: NamedShapes::new(alloc),
+        })
     }
 
-    /// Whether this is the text of the value, with the names that the shape has.
-    fn is_told(&self, alloc: Global, value: &Value) -> Option<bool> {
-        let shape = read_shape(alloc, self.0).ok()?;
-        is_put(alloc, &shape, value, self.2)
-    }
-
-    /// Whether the value is written as the bytes that were read, where it is to be.
-    fn is_written(&self, alloc: Global, value: &Value) -> Option<bool> {
-        let written = bytes_of(alloc, self.0, value)?;
-        Some(self.is_front(&written) == self.4)
-    }
-
-    /// Whether these are the bytes that were read.
-    fn is_front(&self, written: &[u8]) -> bool {
-        match self.1.get(..self.3) {
-            Some(front) => front == written,
-            None => false,
+    fn perform(&mut self, act: &Act<'_>, told: &mut Told) -> fmt::Result {
+        let (first, second) = act.rest.split_once(' ').unwrap_or((act.rest, ""));
+        match act.verb {
+            "read" | "plain" => read(self.alloc, first, second, act.verb == "plain", told),
+            "refuse" => refuse(self.alloc, first, second, told),
+            "say" => say(self.alloc, first, second, told),
+            "letters" => letters(self.alloc, first, act.word(1), told),
+            "nested" => nested(self.alloc, act.word(0), second, told),
+            "untold" => untold(self.alloc, act, told),
+            "shape" => tell(told, &read_shape_in(self.alloc, &self.names, act.rest)),
+            "size" => match read_shape_in(self.alloc, &self.names, act.rest) {
+                Ok(shape) => write!(told, "{} {}", depth_of(&shape), shapes_in(&shape)),
+                Err(refusal) => write!(told, "{refusal:?}"),
+            },
+            "name" => self.name(first, second, told),
+            "same" => self.compare(first, second, told),
+            "refers" => write!(told, "{:?}", next_reference(second, act.word(0) as usize)),
+            _ => Err(fmt::Error),
         }
     }
 }
 
-const READ: &[Read] = &[
-    Read("bool", &[0xfe], "false", 1, false),
-    Read("bool", &[3], "true", 1, false),
-    Read("bool", &[1], "true", 1, true),
-    Read("bool", &[0], "false", 1, true),
-    Read("u8", &[0xff, 0xff], "255", 1, true),
-    Read("u16", &[0xff, 0xff, 0xff], "65535", 2, true),
-    Read("u32", &[0xff, 0xff, 0xff, 0xff], "4294967295", 4, true),
-    Read("u64", &[0xff; 8], "18446744073709551615", 8, true),
-    Read("u64", &[0; 8], "0", 8, true),
-    Read("i8", &[0x80], "-128", 1, true),
-    Read("i8", &[0x7f], "127", 1, true),
-    Read("i8", &[0xff], "-1", 1, true),
-    Read("i16", &[0x80, 0], "-32768", 2, true),
-    Read("i16", &[0x7f, 0xff], "32767", 2, true),
-    Read("i16", &[0xff, 0xff], "-1", 2, true),
-    Read("i32", &[0x80, 0, 0, 0], "-2147483648", 4, true),
-    Read("i32", &[0x7f, 0xff, 0xff, 0xff], "2147483647", 4, true),
-    Read(
-        "i64",
-        &[0x80, 0, 0, 0, 0, 0, 0, 0],
-        "-9223372036854775808",
-        8,
-        true,
-    ),
-    Read(
-        "i64",
-        &[0x7f, 0xff, 0xff, 0xff, 0xff, 0xff, 0xff, 0xff],
-        "9223372036854775807",
-        8,
-        true,
-    ),
-    Read("i64", &[0xff; 8], "-1", 8, true),
-    Read("i64", &[0; 8], "0", 8, true),
-    Read(
-        "utf8",
-        &[0, 0, 0, 5, 0xef, 0xbb, 0xbf, 0x41, 0],
-        "\"A\"",
-        9,
-        true,
-    ),
-    Read("utf8", &[0, 0, 0, 2, 0x41, 0], "\"A\"", 6, false),
-    Read(
-        "utf8/8",
-        &[7, 0xef, 0xbb, 0xbf, 0x61, 0, 0x62, 0],
-        "\"a\\u{0}b\"",
-        8,
-        true,
-    ),
-    Read(
-        "utf8/8",
-        &[7, 0xef, 0xbb, 0xbf, 0xef, 0xbb, 0xbf, 0],
-        "\"\u{feff}\"",
-        8,
-        true,
-    ),
-    Read(
-        "utf16/8",
-        &[8, 0xfe, 0xff, 0xd8, 0x3d, 0xde, 0, 0, 0],
-        "\"\u{1f600}\"",
-        9,
-        true,
-    ),
-    Read(
-        "utf16/8",
-        &[8, 0xff, 0xfe, 0x3d, 0xd8, 0, 0xde, 0, 0],
-        "\"\u{1f600}\"",
-        9,
-        false,
-    ),
-    Read("array<2,u16>", &[0, 0, 0, 4, 0, 1, 0, 2], "[1,2]", 8, true),
-    Read("fixed<3,u8>", &[1, 2, 3, 4], "[1,2,3]", 3, true),
-    Read(
-        "struct/16(u8,utf16)",
-        &[0, 0x0b, 7, 0, 0, 0, 6, 0xfe, 0xff, 0, 0x41, 0, 0],
-        "(7,\"A\")",
-        13,
-        true,
-    ),
-    Read(
-        "struct/16(u8,utf16)",
-        &[
-            0, 0x0d, 7, 0, 0, 0, 6, 0xfe, 0xff, 0, 0x41, 0, 0, 0xaa, 0xbb,
-        ],
-        "(7,\"A\")",
-        15,
-        false,
-    ),
-    Read(
-        "struct/16(u8,utf16)",
-        &[0, 0x0b, 7, 0, 0, 0, 6, 0xff, 0xfe, 0x41, 0, 0, 0],
-        "(7,\"A\")",
-        13,
-        false,
-    ),
-    Read(
-        "struct/16(u8,utf16)",
-        &[0, 0x0c, 7, 0, 0, 0, 7, 0xfe, 0xff, 0, 0x41, 0, 0, 0x55],
-        "(7,\"A\")",
-        14,
-        false,
-    ),
-    Read("union(1:u8)", &[0; 8], "none", 8, true),
-    Read("union(1:u8)", &[0, 0, 0, 1, 0, 0, 0, 1, 7], "1:7", 9, true),
-    Read(
-        "union(1:u8)",
-        &[0, 0, 0, 3, 0, 0, 0, 1, 7, 0xaa, 0xbb],
-        "1:7",
-        11,
-        false,
-    ),
-];
+impl Payloads {
+    /// Gives a name to a shape.
+    fn name(&mut self, name: &str, text: &str, told: &mut Told) -> fmt::Result {
+        match read_shape_in(self.alloc, &self.names, text) {
+            Ok(shape) => match String::from_str(self.alloc, name) {
+                Ok(name) => tell_refusal(told, &self.names.insert(name, shape)),
+                Err(refusal) => write!(told, "{refusal:?}"),
+            },
+            Err(refusal) => write!(told, "{refusal:?}"),
+        }
+    }
 
-/// The texts of texts, with what is escaped in them and what is not.
-const TEXTS: &[Read] = &[
-    Read("utf8/8", b"\x04\xef\xbb\xbf\0", "\"\"", 5, true),
-    Read("utf8/8", b"\x05\xef\xbb\xbfA\0", "\"A\"", 6, true),
-    Read("utf8/8", b"\x07\xef\xbb\xbfa b\0", "\"a b\"", 8, true),
-    Read(
-        "utf8/8",
-        b"\x0c\xef\xbb\xbfsay \"hi\"\0",
-        "\"say \\\"hi\\\"\"",
-        13,
-        true,
-    ),
-    Read("utf8/8", b"\x08\xef\xbb\xbfc:\\d\0", "\"c:\\\\d\"", 9, true),
-    Read("utf8/8", b"\x05\xef\xbb\xbf'\0", "\"'\"", 6, true),
-    Read("utf8/8", b"\x05\xef\xbb\xbf\0\0", "\"\\u{0}\"", 6, true),
-    Read(
-        "utf8/8",
-        b"\x07\xef\xbb\xbf\n\r\t\0",
-        "\"\\u{a}\\u{d}\\u{9}\"",
-        8,
-        true,
-    ),
-    Read(
-        "utf8/8",
-        b"\x06\xef\xbb\xbf\x0f\x10\0",
-        "\"\\u{f}\\u{10}\"",
-        7,
-        true,
-    ),
-    Read(
-        "utf8/8",
-        b"\x08\xef\xbb\xbf\x1f \x7e\x7f\0",
-        "\"\\u{1f} ~\\u{7f}\"",
-        9,
-        true,
-    ),
-    Read(
-        "utf8/8",
-        b"\x0a\xef\xbb\xbf\xc2\x80\xc2\x9f\xc2\xa0\0",
-        "\"\u{80}\u{9f}\u{a0}\"",
-        11,
-        true,
-    ),
-    Read(
-        "utf8/8",
-        b"\x0f\xef\xbb\xbf\xc3\xa4\xc3\x9f\xe2\x82\xac\xf0\x9d\x84\x9e\0",
-        "\"äß€𝄞\"",
-        16,
-        true,
-    ),
-    Read(
-        "utf8/8",
-        b"\x0a\xef\xbb\xbf\xef\xbb\xbf\xef\xbf\xbd\0",
-        "\"\u{feff}\u{fffd}\"",
-        11,
-        true,
-    ),
-    Read(
-        "utf8/8",
-        b"\x0b\xef\xbb\xbf{}\\u{0}\0",
-        "\"{}\\\\u{0}\"",
-        12,
-        true,
-    ),
-];
-
-/// The texts of what has parts.
-const PARTS: &[Read] = &[
-    Read("array/8<2,u8>", &[0], "[]", 1, true),
-    Read("struct(u8)", &[1], "(1)", 1, true),
-    Read("union(3:u8)", &[0, 0, 0, 1, 0, 0, 0, 3, 8], "3:8", 9, true),
-    Read(
-        "union(3:union(1:u8))",
-        &[0, 0, 0, 8, 0, 0, 0, 3, 0, 0, 0, 0, 0, 0, 0, 0],
-        "3:none",
-        16,
-        true,
-    ),
-    Read(
-        "struct(u8,struct(utf8/8,union(1:u8)),union(4294967295:array/8<2,i8>),array/8<2,u8>,array/8<2,bool>)",
-        b"\x07\x07\xef\xbb\xbfA,\"\0\0\0\0\0\0\0\0\0\0\0\0\x03\xff\xff\xff\xff\x02\xfe\x1e\0\x01\x01",
-        "(7,(\"A,\\\"\",none),4294967295:[-2,30],[],[true])",
-        31,
-        true,
-    ),
-];
-
-/// A shape, bytes of it, and the fault that they have.
-struct Faulty(&'static str, &'static [u8], PayloadError);
-
-impl Row for Faulty {
-    fn is_right(&self, alloc: Global) -> Option<bool> {
-        let Faulty(shape, bytes, fault) = self;
-        let shape = read_shape(alloc, shape).ok()?;
-        Some(decode(alloc, &shape, bytes).err() == Some(*fault))
+    /// Whether two texts say shapes that are printed alike for a programmer.
+    fn compare(&self, text: &str, plain: &str, told: &mut Told) -> fmt::Result {
+        match (
+            read_shape_in(self.alloc, &self.names, text),
+            read_shape(self.alloc, plain),
+        ) {
+            (Ok(shape), Ok(other)) => are_alike(self.alloc, &shape, &other, told),
+            (Err(refusal), _) | (_, Err(refusal)) => write!(told, "{refusal:?}"),
+        }
     }
 }
 
-/// A shape, and a value that is none of it, as bytes of another shape: why it is not written.
-struct Refused(&'static str, &'static str, &'static [u8], PayloadError);
-
-impl Row for Refused {
-    fn is_right(&self, alloc: Global) -> Option<bool> {
-        let Refused(_, of, bytes, _) = self;
-        let (value, _) = value_of(alloc, of, bytes)?;
-        self.is_refused(alloc, &value)
+fn are_alike(alloc: Global, shape: &Shape, other: &Shape, told: &mut Told) -> fmt::Result {
+    let shape = format!(in alloc; "{shape:?}");
+    let other = format!(in alloc; "{other:?}");
+    match (shape, other) {
+        (Ok(shape), Ok(other)) => write!(told, "{}", shape == other),
+        _ => write!(told, "OutOfMemory"),
     }
 }
 
-impl Refused {
-    /// The value is refused, and the bytes before stay as they are.
-    fn is_refused(&self, alloc: Global, value: &Value) -> Option<bool> {
-        let shape = read_shape(alloc, self.0).ok()?;
-        Some(self.is_refused_by(alloc, &shape, value))
-    }
-
-    fn is_refused_by(&self, alloc: Global, shape: &Shape, value: &Value) -> bool {
-        let mut out = Vec::new(alloc);
-        let is_pushed = out.push(9u8).is_ok();
-        let refusal = encode(shape, value, &mut out).err();
-        is_pushed && refusal == Some(self.3) && matches!(out.as_slice(), [9])
-    }
+/// The bytes of hex digits, which are `-` for none.
+fn bytes_of(alloc: Global, digits: &str) -> Option<Vec<u8>> {
+    let digits = if digits == "-" { "" } else { digits };
+    hex::decode(alloc, digits).ok()
 }
 
-const REFUSED: &[Refused] = &[
-    Refused(
-        "array/8<2,u8>",
-        "array/8<2,bool>",
-        &[1, 1],
-        PayloadError::NotOfShape(0),
-    ),
-    Refused(
-        "array/8<2,u8>",
-        "array/8<2,u16>",
-        &[2, 1, 0],
-        PayloadError::NotOfShape(0),
-    ),
-    Refused(
-        "array/8<2,u8>",
-        "array/8<2,i8>",
-        &[1, 1],
-        PayloadError::NotOfShape(0),
-    ),
-    Refused(
-        "array/8<2,i8>",
-        "array/8<2,i16>",
-        &[2, 0xff, 0x7f],
-        PayloadError::NotOfShape(0),
-    ),
-    Refused(
-        "array/8<2,i8>",
-        "array/8<2,i16>",
-        &[2, 0, 0x80],
-        PayloadError::NotOfShape(0),
-    ),
-    Refused(
-        "struct(u8,fixed<2,u8>)",
-        "struct(u8,fixed<1,u8>)",
-        &[7, 1],
-        PayloadError::NotOfShape(0),
-    ),
-    Refused(
-        "struct(u8,u8)",
-        "struct(u8,u8,u8)",
-        &[7, 1, 1],
-        PayloadError::NotOfShape(0),
-    ),
-    Refused(
-        "struct(u8,union(1:u8))",
-        "struct(u8,union(2:u8))",
-        &[7, 0, 0, 0, 1, 0, 0, 0, 2, 1],
-        PayloadError::UnknownVariant(0),
-    ),
-    Refused(
-        "struct(u8,array/8<1,u8>)",
-        "struct(u8,array/8<2,u16>)",
-        &[7, 4, 0, 1, 1, 0],
-        PayloadError::TooMany(0),
-    ),
-    Refused("fixed<0,u8>", "u8", &[0], PayloadError::BadShape(0)),
-];
-
-/// An error, its name and its text.
-struct Printed(PayloadError, &'static str, &'static str);
-
-impl Row for Printed {
-    fn is_right(&self, alloc: Global) -> Option<bool> {
-        let Printed(error, name, text) = self;
-        Some(is_printed(alloc, error, text)? && error.name() == *name)
+/// Reads a value, and tells it, with names and whether it is written so, or without.
+fn read(
+    alloc: Global,
+    shape: &str,
+    digits: &str,
+    is_plain: bool,
+    told: &mut Told,
+) -> fmt::Result {
+    let Some(bytes) = bytes_of(alloc, digits) else {
+        return write!(told, "OutOfMemory");
+    };
+    let shape = match read_shape(alloc, shape) {
+        Ok(shape) => shape,
+        Err(refusal) => return write!(told, "{refusal:?}"),
+    };
+    match decode(alloc, &shape, &bytes) {
+        Ok((value, _)) if is_plain => write!(told, "{value}"),
+        Ok((value, count)) => {
+            let front = bytes.get(..count).unwrap_or(&[]);
+            tell_value(alloc, &shape, &value, front, told)
+        }
+        Err(fault) => write!(told, "{fault:?}"),
     }
 }
 
-const PRINTED: &[Printed] = &[
-    Printed(PayloadError::Truncated(1), "Truncated", "Truncated at 1"),
-    Printed(PayloadError::BadText(2), "BadText", "BadText at 2"),
-    Printed(
-        PayloadError::NoTerminator(3),
-        "NoTerminator",
-        "NoTerminator at 3",
-    ),
-    Printed(
-        PayloadError::UnknownVariant(4),
-        "UnknownVariant",
-        "UnknownVariant at 4",
-    ),
-    Printed(
-        PayloadError::LengthMismatch(5),
-        "LengthMismatch",
-        "LengthMismatch at 5",
-    ),
-    Printed(PayloadError::TooMany(8), "TooMany", "TooMany at 8"),
-    Printed(PayloadError::TooDeep(0), "TooDeep", "TooDeep at 0"),
-    Printed(PayloadError::NotOfShape(0), "NotOfShape", "NotOfShape at 0"),
-    Printed(PayloadError::TooLong(0), "TooLong", "TooLong at 0"),
-    Printed(PayloadError::BadShape(0), "BadShape", "BadShape at 0"),
-    Printed(
-        PayloadError::DuplicateMember(7),
-        "DuplicateMember",
-        "DuplicateMember at 7",
-    ),
-    Printed(
-        PayloadError::WrongWireType(4),
-        "WrongWireType",
-        "WrongWireType at 4",
-    ),
-    Printed(
-        PayloadError::MissingMember(0),
-        "MissingMember",
-        "MissingMember at 0",
-    ),
-    Printed(PayloadError::OutOfMemory, "OutOfMemory", "out of memory"),
-];
+/// Tells a value that was read from these bytes.
+fn tell_value(
+    alloc: Global,
+    shape: &Shape,
+    value: &Value,
+    bytes: &[u8],
+    told: &mut Told,
+) -> fmt::Result {
+    let mut text = String::new(alloc);
+    let said = ToldValue { shape, value };
+    if said.put(&mut text).is_err() {
+        return write!(told, "OutOfMemory");
+    }
+    let mut out = Vec::new(alloc);
+    match encode(shape, value, &mut out) {
+        Ok(()) => {
+            let is_same = if out.as_slice() == bytes { "same" } else { "other" };
+            write!(told, "{} {text} {is_same}", bytes.len())
+        }
+        Err(refusal) => write!(told, "{refusal:?}"),
+    }
+}
 
-#[test]
-fn values(rt: HostRuntime) {
-    check(&rt, rt.alloc(), "READ", READ);
+/// Writes a value of another shape, and tells the refusal. What stands before it stays.
+fn refuse(alloc: Global, shape: &str, other: &str, told: &mut Told) -> fmt::Result {
+    let (other, digits) = other.split_once(' ').unwrap_or((other, ""));
+    let (Ok(shape), Ok(other), Some(bytes)) = (
+        read_shape(alloc, shape),
+        read_shape(alloc, other),
+        bytes_of(alloc, digits),
+    ) else {
+        return write!(told, "OutOfMemory");
+    };
+    match decode(alloc, &other, &bytes) {
+        Ok((value, _)) => tell_encoded(alloc, &shape, &value, told),
+        Err(fault) => write!(told, "{fault:?}"),
+    }
+}
+
+/// Writes a value behind a byte, and tells its bytes, or the refusal, which leaves that byte.
+fn tell_encoded(alloc: Global, shape: &Shape, value: &Value, told: &mut Told) -> fmt::Result {
+    let mut out = Vec::new(alloc);
+    if out.push(9u8).is_err() {
+        return write!(told, "OutOfMemory");
+    }
+    match (encode(shape, value, &mut out), out.as_slice()) {
+        (Ok(()), [9, bytes @ ..]) => tell_bytes(told, bytes),
+        (Err(refusal), [9]) => write!(told, "{refusal:?}"),
+        _ => Err(fmt::Error),
+    }
+}
+
+/// The bytes of the value with a text.
+fn say(alloc: Global, shape: &str, text: &str, told: &mut Told) -> fmt::Result {
+    let shape = match read_shape(alloc, shape) {
+        Ok(shape) => shape,
+        Err(refusal) => return write!(told, "{refusal:?}"),
+    };
+    match read_value(alloc, &shape, text) {
+        Ok(value) => tell_encoded(alloc, &shape, &value, told),
+        Err(refusal) => write!(told, "{refusal:?}"),
+    }
+}
+
+/// A text of so many letters.
+fn text_of(alloc: Global, count: u32) -> Result<Value, AllocError> {
+    let mut text = String::new(alloc);
+    for _ in 0..count {
+        text.push('a')?;
+    }
+    Ok(Value::Text(text))
+}
+
+fn letters(alloc: Global, shape: &str, count: u32, told: &mut Told) -> fmt::Result {
+    let (Ok(shape), Ok(value)) = (read_shape(alloc, shape), text_of(alloc, count)) else {
+        return write!(told, "OutOfMemory");
+    };
+    let mut out = Vec::new(alloc);
+    match encode(&shape, &value, &mut out) {
+        Ok(()) => write!(told, "{}", out.len()),
+        Err(refusal) => write!(told, "{refusal:?}"),
+    }
+}
+
+/// So many arrays, one in the other, around a shape.
+fn nested_text(alloc: Global, count: u32, shape: &str) -> Result<String, AllocError> {
+    let mut text = String::new(alloc);
+    for _ in 0..count {
+        text.push_str("array/8<1,")?;
+    }
+    text.push_str(shape)?;
+    for _ in 0..count {
+        text.push('>')?;
+    }
+    Ok(text)
+}
+
+fn nested(alloc: Global, count: u32, shape: &str, told: &mut Told) -> fmt::Result {
+    let Ok(text) = nested_text(alloc, count, shape) else {
+        return write!(told, "OutOfMemory");
+    };
+    match read_shape(alloc, text.as_str()) {
+        Ok(shape) => tell_refusal(told, &check_shape(alloc, &shape)),
+        Err(refusal) => write!(told, "{refusal:?}"),
+    }
+}
+
+/// Checks a shape that has no text: without members, without variants, a tagged structure with a Data ID, or a float
+/// with a name for its value 0.
+fn untold(alloc: Global, act: &Act<'_>, told: &mut Told) -> fmt::Result {
+    let shape = match act.rest {
+        "members" => Some(Shape::Struct(None, Vec::new(alloc))),
+        "variants" => Some(Shape::Union(Vec::new(alloc))),
+        "tagged" => Some(Shape::Tagged(Width::W8, Vec::new(alloc))),
+        "float" => named_float(alloc),
+        _ => tagged_of(alloc, act.short(0)),
+    };
+    match shape {
+        Some(shape) => tell_refusal(told, &check_shape(alloc, &shape)),
+        None => write!(told, "OutOfMemory"),
+    }
+}
+
+/// A tagged structure of one member, which may be absent.
+fn tagged_of(alloc: Global, id: u16) -> Option<Shape> {
+    let mut members = Vec::new(alloc);
+    let member = Member {
+        id,
+        is_optional: true,
+        shape: Shape::U8,
+    };
+    members.push(member).ok()?;
+    Some(Shape::Tagged(Width::W8, members))
+}
+
+fn named_float(alloc: Global) -> Option<Shape> {
+    let mut labels = Vec::new(alloc);
+    let name = String::from_str(alloc, "A").ok()?;
+    labels.push((0, name)).ok()?;
+    Some(Shape::Enum(Box::new(alloc, Shape::F32).ok()?, labels))
 }
 
 #[test]
-fn texts_and_parts(rt: HostRuntime) {
-    check(&rt, rt.alloc(), "TEXTS", TEXTS);
-    check(&rt, rt.alloc(), "PARTS", PARTS);
+fn calls_that_take_memory(rt: HostRuntime) {
+    try_tables::<Payloads>(&rt, &[MEMORY]);
 }
 
 #[test]
-fn refusals(rt: HostRuntime) {
-    check(&rt, rt.alloc(), "REFUSED", REFUSED);
+fn bytes_and_values(rt: HostRuntime) {
+    let tables = [
+        values::READ,
+        values::TEXTS,
+        values::PARTS,
+        values::REFUSED,
+        floats::READ,
+        floats::NANS,
+        floats::FAULTY,
+        floats::REFUSED,
+        floats::SINGLES,
+        floats::DOUBLES,
+        more_forms::READ,
+        more_forms::NAMED,
+        more_forms::FAULTY,
+        more_forms::REFUSED,
+        tagged::READ,
+        tagged::REFUSED,
+        limits::SIZED,
+    ];
+    try_tables::<Payloads>(&rt, &tables);
 }
 
 #[test]
-fn errors_are_printed(rt: HostRuntime) {
-    check(&rt, rt.alloc(), "PRINTED", PRINTED);
-    assert!(rt; PayloadError::TooMany(8).place() == 8);
-}
-
-#[test]
-fn laws_hold(_rt: HostRuntime) {
-    laws::what_is_written_is_read_again();
-    laws::what_is_written_is_spelled_so();
-    laws::a_value_takes_a_byte();
-    laws::a_text_says_one_float();
-    laws::printed_values_read_back();
+fn texts_of_shapes_and_values(rt: HostRuntime) {
+    let tables = [
+        limits::NESTED,
+        limits::UNTOLD,
+        shapes::SHAPED,
+        shapes::REFUSED,
+        shapes::REFUSED_BYTE,
+        named_shapes::SAME,
+        named_shapes::REFUSED,
+        named_shapes::REFUSED_ALONE,
+        named_shapes::SIZED,
+        named_shapes::REFERS,
+        value_texts::AGAIN,
+        value_texts::ALSO,
+        value_texts::REFUSED,
+        value_texts::BAD,
+    ];
+    try_tables::<Payloads>(&rt, &tables);
 }

@@ -1,99 +1,102 @@
-//! Rows of offers, and of answers to finds.
-use super::{FIRST, Repeats, SECOND, are_instances};
-use crate::rows::{Row, Step, check, end_at, first_wrong_step};
-use Act::{Add, Find, IsUp, QuietUntil, Start, Stop, Tick};
-use sd_core::{InstanceId, Offers, Phases, Sought, Version};
+//! Rows of offers, and of answers to finds: `add INSTANCE MAJOR MINOR`, `start DELAY`, `tick`, `quiet UNTIL` (a tick at
+//! each moment before that one), `find SERVICE INSTANCE MAJOR MINOR`, `stop INSTANCE`, `up INSTANCE`.
+use super::{NO_REPETITIONS, THREE, instance, tell_instances};
+use crate::acts::{Act, Subject, Told, tell_refusal};
+use crate::judging::try_tables;
+use sd_core::{Offers, Phases, Sought, Version};
 use someip_tables::Moment;
-use std::alloc::Global;
-
-/// A call of the offers, and what has to come of it.
-#[derive(Clone, Copy)]
-enum Act {
-    /// An instance is added.
-    Add(InstanceId, Version),
-    /// Every instance is started with this delay.
-    Start(u32),
-    /// The clock ticks, and these instances send an Offer.
-    Tick(&'static [InstanceId]),
-    /// The clock ticks at each moment from here to before this one, and no instance sends an Offer.
-    QuietUntil(u64),
-    /// These instances answer a Find.
-    Find(Sought, &'static [InstanceId]),
-    /// An instance is taken down: whether it was up.
-    Stop(InstanceId, bool),
-    /// Whether an instance is up.
-    IsUp(InstanceId, bool),
-}
-
-/// A moment, in milliseconds, and a call then.
-struct At(u64, Act);
-
-const VERSION: Version = Version { major: 1, minor: 0 };
-
-/// What asks for any instance of the service, in any version.
-const ANY: Sought = Sought {
-    service: 0x1111,
-    instance: 0xffff,
-    major: 0xff,
-    minor: 0xffff_ffff,
-};
+use std::alloc::{AllocError, Global};
+use std::fmt;
+use std::fmt::Write;
 
 /// Offers at 10, 40, 100, 220 and 1220.
-const IN_PHASES: &[At] = &[
-    At(0, Add(FIRST, VERSION)),
-    At(0, Start(10)),
-    At(0, QuietUntil(10)),
-    At(10, Tick(&[FIRST])),
-    At(11, QuietUntil(40)),
-    At(40, Tick(&[FIRST])),
-    At(41, QuietUntil(100)),
-    At(100, Tick(&[FIRST])),
-    At(101, QuietUntil(220)),
-    At(220, Tick(&[FIRST])),
-    At(221, QuietUntil(1220)),
-    At(1220, Tick(&[FIRST])),
-    At(1221, QuietUntil(1500)),
-];
+const IN_PHASES: &str = "
+0 add 1 1 0
+0 start 10
+0 quiet 10
+10 tick -> 1
+11 quiet 40
+40 tick -> 1
+41 quiet 100
+100 tick -> 1
+101 quiet 220
+220 tick -> 1
+221 quiet 1220
+1220 tick -> 1
+1221 quiet 1500";
 
 /// Without repetitions, at a few moments.
-const CYCLIC: &[At] = &[
-    At(0, Add(FIRST, VERSION)),
-    At(0, Start(10)),
-    At(9, Tick(&[])),
-    At(10, Tick(&[FIRST])),
-    At(1009, Tick(&[])),
-    At(1010, Tick(&[FIRST])),
-    At(2009, Tick(&[])),
-    At(2010, Tick(&[FIRST])),
-];
+const CYCLIC: &str = "
+0 once
+0 add 1 1 0
+0 start 10
+9 tick
+10 tick -> 1
+1009 tick
+1010 tick -> 1
+2009 tick
+2010 tick -> 1";
 
 /// A tick that is late, and those after it.
-const LATE: &[At] = &[
-    At(0, Add(SECOND, VERSION)),
-    At(0, Add(FIRST, VERSION)),
-    At(0, Start(10)),
-    At(1000, Tick(&[FIRST, SECOND])),
-    At(1029, Tick(&[])),
-    At(1030, Tick(&[FIRST, SECOND])),
-];
+const LATE: &str = "
+0 add 2 1 0
+0 add 1 1 0
+0 start 10
+1000 tick -> 1 2
+1029 tick
+1030 tick -> 1 2";
 
 /// Finds before and after the first Offer, and while instances are down.
-const FINDS: &[At] = &[
-    At(0, Add(FIRST, Version { major: 1, minor: 7 })),
-    At(0, Add(SECOND, Version { major: 2, minor: 7 })),
-    At(0, Start(10)),
-    At(9, Tick(&[])),
-    At(9, Find(ANY, &[])),
-    At(10, Tick(&[FIRST, SECOND])),
-    At(10, Find(ANY, &[FIRST, SECOND])),
-    At(10, Stop(FIRST, true)),
-    At(10, Stop(FIRST, false)),
-    At(10, IsUp(FIRST, false)),
-    At(10, Find(ANY, &[SECOND])),
-    At(10, Start(10)),
-    At(10, IsUp(FIRST, true)),
-    At(10, Find(ANY, &[])),
-];
+const FINDS: &str = "
+0 add 1 1 7
+0 add 2 2 7
+0 start 10
+9 tick
+9 find 0x1111 0xffff 0xff 0xffffffff
+10 tick -> 1 2
+10 find 0x1111 0xffff 0xff 0xffffffff -> 1 2
+10 stop 1 -> true
+10 stop 1 -> false
+10 up 1 -> false
+10 find 0x1111 0xffff 0xff 0xffffffff -> 2
+10 start 10
+10 up 1 -> true
+10 find 0x1111 0xffff 0xff 0xffffffff";
+
+/// Which finds fit the instance 1 in version 1.7.
+const FITS: &str = "
+0 fits 0x1111 1 1 7 -> true
+0 fits 0x1112 1 1 7 -> false
+0 fits 0xffff 1 1 7 -> false
+0 fits 0x1111 2 1 7 -> false
+0 fits 0x1111 0xffff 1 7 -> true
+0 fits 0x1111 1 2 7 -> false
+0 fits 0x1111 1 0xff 7 -> true
+0 fits 0x1111 1 1 8 -> false
+0 fits 0x1111 1 1 0xffffffff -> true
+0 fits 0x1111 0xffff 0xff 0xffffffff -> true";
+
+/// Seven instances, of which each takes memory.
+const SEVEN: &str = "
+0 add 1 1 0
+0 add 2 1 0
+0 add 3 1 0
+0 add 4 1 0
+0 add 5 1 0
+0 add 6 1 0
+0 add 7 1 0
+0 start 10
+5 find 0x1111 0xffff 0xff 0xffffffff
+10 tick -> 1 2 3 4 5 6 7
+20 find 0x1111 0xffff 0xff 0xffffffff -> 1 2 3 4 5 6 7
+30 find 0x1111 2 0xff 0xffffffff -> 2
+40 tick -> 1 2 3 4 5 6 7
+45 stop 3 -> true
+100 tick -> 1 2 4 5 6 7
+220 tick -> 1 2 4 5 6 7
+1220 find 0x1111 0xffff 0xff 0xffffffff -> 1 2 4 5 6 7
+1220 tick -> 1 2 4 5 6 7
+1221 up 3 -> false";
 
 /// The offers, and the phases of their ticks.
 #[derive(Drop)]
@@ -102,102 +105,65 @@ struct Offering {
     phases: Phases,
 }
 
-/// The number of the first of these rows that comes out otherwise.
-fn first_wrong(alloc: Global, phases: Phases, rows: &[At]) -> Option<usize> {
-    let mut on = Offering {
-        offers: Offers::new(alloc),
-        phases,
-    };
-    first_wrong_step(alloc, &mut on, rows)
-}
+impl Subject for Offering {
+    fn make(alloc: Global) -> Result<Offering, AllocError> {
+        Ok(Offering {
+            offers: Offers::new(alloc),
+            phases: THREE,
+        })
+    }
 
-impl Step<Offering> for At {
-    fn comes_out(&self, _alloc: Global, on: &mut Offering) -> Option<bool> {
-        let At(millis, act) = *self;
-        act.comes_out(&mut on.offers, on.phases, millis)
+    fn perform(&mut self, act: &Act<'_>, told: &mut Told) -> fmt::Result {
+        let number = instance(act.short(0));
+        match act.verb {
+            "once" => self.phases = NO_REPETITIONS,
+            "add" => {
+                let version = Version { major: act.byte(1), minor: act.word(2) };
+                return tell_refusal(told, &self.offers.add(number, version));
+            }
+            "start" => self.offers.start(act.word(0)),
+            "tick" => return self.tick(act.at, told),
+            "quiet" => return self.tick_until(act, told),
+            "find" => return tell_instances(told, &self.offers.find(sought(act))),
+            "fits" => {
+                let version = Version { major: 1, minor: 7 };
+                write!(told, "{}", sought(act).fits(&instance(1), &version))?;
+            }
+            "stop" => write!(told, "{}", self.offers.stop(number))?,
+            "up" => write!(told, "{}", self.offers.is_up(number))?,
+            _ => return Err(fmt::Error),
+        }
+        Ok(())
     }
 }
 
-impl Act {
-    /// Whether the act comes out as it says, if there is such a moment.
-    fn comes_out(self, offers: &mut Offers, phases: Phases, millis: u64) -> Option<bool> {
-        let now = Moment::new(millis)?;
-        match self {
-            Add(instance, version) => Some(offers.add(instance, version).is_ok()),
-            Start(delay) => Some(starts(offers, delay)),
-            Tick(due) => Some(ticks(offers, phases, now, due)),
-            QuietUntil(end) => is_quiet(offers, phases, millis, end),
-            Find(sought, found) => Some(are_instances(offers.find(sought), found)),
-            Stop(instance, was_up) => Some(offers.stop(instance) == was_up),
-            IsUp(instance, is_up) => Some(offers.is_up(instance) == is_up),
+impl Offering {
+    fn tick(&mut self, millis: u64, told: &mut Told) -> fmt::Result {
+        match Moment::new(millis) {
+            Some(now) => tell_instances(told, &self.offers.tick(now, self.phases)),
+            None => Err(fmt::Error),
         }
     }
-}
 
-fn starts(offers: &mut Offers, delay: u32) -> bool {
-    offers.start(delay);
-    true
-}
-
-fn ticks(offers: &mut Offers, phases: Phases, now: Moment, due: &[InstanceId]) -> bool {
-    are_instances(offers.tick(now, phases), due)
-}
-
-fn is_quiet(offers: &mut Offers, phases: Phases, start: u64, end: u64) -> Option<bool> {
-    for millis in start..end {
-        if !ticks(offers, phases, Moment::new(millis)?, &[]) {
-            return Some(false);
+    fn tick_until(&mut self, act: &Act<'_>, told: &mut Told) -> fmt::Result {
+        for millis in act.at..act.long(0) {
+            self.tick(millis, told)?;
         }
-    }
-    Some(true)
-}
-
-/// What is asked for, by service, instance, major and minor version, and whether that fits the first
-/// instance in version 1.7.
-struct Fit(u16, u16, u8, u32, bool);
-
-impl Row for Fit {
-    fn is_right(&self, _alloc: Global) -> Option<bool> {
-        let Fit(service, instance, major, minor, fits) = *self;
-        let sought = Sought {
-            service,
-            instance,
-            major,
-            minor,
-        };
-        Some(sought.fits(&FIRST, &Version { major: 1, minor: 7 }) == fits)
+        Ok(())
     }
 }
 
-const FITS: &[Fit] = &[
-    Fit(0x1111, 1, 1, 7, true),
-    Fit(0x1112, 1, 1, 7, false),
-    Fit(0xffff, 1, 1, 7, false),
-    Fit(0x1111, 2, 1, 7, false),
-    Fit(0x1111, 0xffff, 1, 7, true),
-    Fit(0x1111, 1, 2, 7, false),
-    Fit(0x1111, 1, 0xff, 7, true),
-    Fit(0x1111, 1, 1, 8, false),
-    Fit(0x1111, 1, 1, 0xffff_ffff, true),
-    Fit(0x1111, 0xffff, 0xff, 0xffff_ffff, true),
-];
-
-/// Tables by their names, and how often what goes out is repeated.
-const TABLES: &[(&str, Repeats, &[At])] = &[
-    ("IN_PHASES", Repeats::Thrice, IN_PHASES),
-    ("CYCLIC", Repeats::Never, CYCLIC),
-    ("LATE", Repeats::Thrice, LATE),
-    ("FINDS", Repeats::Thrice, FINDS),
-];
-
-#[test]
-fn offers(rt: HostRuntime) {
-    for (name, repeats, rows) in TABLES {
-        end_at(&rt, name, first_wrong(rt.alloc(), repeats.phases(), rows));
+/// What is asked for.
+fn sought(act: &Act<'_>) -> Sought {
+    Sought {
+        service: act.short(0),
+        instance: act.short(1),
+        major: act.byte(2),
+        minor: act.word(3),
     }
 }
 
 #[test]
-fn finds_that_fit(rt: HostRuntime) {
-    check(&rt, rt.alloc(), "FITS", FITS);
+fn offers(rt: HostRuntime) {
+    try_tables::<Offering>(&rt, &[IN_PHASES, CYCLIC, LATE, FINDS, FITS, SEVEN]);
 }

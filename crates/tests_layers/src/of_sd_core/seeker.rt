@@ -1,238 +1,152 @@
-//! Rows of finds and of offers that are known.
-use super::{FIRST, Repeats, SECOND, THIRD, address, are_instances, endpoint, endpoint_at};
-use crate::rows::{Step, end_at, first_wrong_step};
-use Act::{Add, Known, Offer, QuietUntil, Reboot, Start, Stop, Tick};
-use sd_core::{Counted, InstanceId, KnownOffer, Phases, ReceivedOffer, Seeker, Ticked, Uncounted};
+//! Rows of finds and of offers that are known: `add INSTANCE MAJOR`, `start DELAY`, `tick` (which offers end, and behind
+//! a bar which Finds go out), `quiet UNTIL`, `offer INSTANCE MAJOR TTL PORT BY` (of an endpoint of host 1, port 0 for
+//! none), `stop INSTANCE MAJOR BY`, `reboot HOST`, `known INSTANCE`.
+use super::{NO_REPETITIONS, THREE, address, endpoint_at, instance, tell_instances, tell_numbers};
+use crate::acts::{Act, Subject, Told, tell, tell_refusal};
+use crate::judging::try_tables;
+use sd_core::{Phases, ReceivedOffer, Seeker, Ticked};
 use sd_wire::Ttl;
 use someip_tables::Moment;
 use std::alloc::{AllocError, Global};
-
-/// An Offer, and the host that it comes from. Its endpoint is a port of host 1.
-#[derive(Clone, Copy)]
-struct Offered {
-    instance: InstanceId,
-    major: u8,
-    ttl: u32,
-    port: Option<u16>,
-    by: u8,
-}
-
-/// A call of the seeker, and what has to come of it.
-#[derive(Clone, Copy)]
-enum Act {
-    /// An instance is wanted in a major version.
-    Add(InstanceId, u8),
-    /// The search for every instance begins with this delay.
-    Start(u32),
-    /// The clock ticks: the offers of these instances end, and Finds of those go out.
-    Tick(&'static [InstanceId], &'static [InstanceId]),
-    /// The clock ticks at each moment from here to before this one, and nothing comes of it; an offer of
-    /// the first instance is known all the while, or is not.
-    QuietUntil(u64, bool),
-    /// An Offer comes.
-    Offer(Offered, Result<Counted, Uncounted>),
-    /// A StopOffer of an instance in a major version comes from a host: whether an offer ended.
-    Stop(InstanceId, u8, u8, bool),
-    /// A host began again, and the offers of these instances end.
-    Reboot(u8, &'static [InstanceId]),
-    /// The offer that is known of an instance, by its host and the port.
-    Known(InstanceId, Option<(u8, u16)>),
-}
-
-/// A moment, in milliseconds, and a call then.
-struct At(u64, Act);
-
-/// The Offer of the first instance by host 1, for 3 seconds.
-const OFFER: Offered = Offered {
-    instance: FIRST,
-    major: 1,
-    ttl: 3,
-    port: Some(30509),
-    by: 1,
-};
-
-/// The same, until host 1 begins again.
-const LASTING: Offered = Offered {
-    ttl: 0xff_ffff,
-    ..OFFER
-};
-
-/// The first one again, without an endpoint.
-const BARE: Offered = Offered {
-    port: None,
-    ..OFFER
-};
+use std::fmt;
+use std::fmt::Write;
 
 /// Finds at 10, 40, 100 and 220.
-const IN_PHASES: &[At] = &[
-    At(0, Add(FIRST, 1)),
-    At(0, Start(10)),
-    At(0, QuietUntil(10, false)),
-    At(10, Tick(&[], &[FIRST])),
-    At(11, QuietUntil(40, false)),
-    At(40, Tick(&[], &[FIRST])),
-    At(41, QuietUntil(100, false)),
-    At(100, Tick(&[], &[FIRST])),
-    At(101, QuietUntil(220, false)),
-    At(220, Tick(&[], &[FIRST])),
-    At(221, QuietUntil(1500, false)),
-];
+const IN_PHASES: &str = "
+0 add 1 1
+0 start 10
+0 quiet 10
+10 tick -> | 1
+11 quiet 40
+40 tick -> | 1
+41 quiet 100
+100 tick -> | 1
+101 quiet 220
+220 tick -> | 1
+221 quiet 1500";
 
 /// An Offer at 50, which passes at 3050.
-const FOUND: &[At] = &[
-    At(0, Add(FIRST, 1)),
-    At(0, Start(10)),
-    At(0, QuietUntil(10, false)),
-    At(10, Tick(&[], &[FIRST])),
-    At(10, Known(FIRST, None)),
-    At(11, QuietUntil(40, false)),
-    At(40, Tick(&[], &[FIRST])),
-    At(40, Known(FIRST, None)),
-    At(41, QuietUntil(51, false)),
-    At(50, Offer(OFFER, Ok(Counted::New))),
-    At(50, Known(FIRST, Some((1, 30509)))),
-    At(51, QuietUntil(3050, true)),
-    At(3050, Tick(&[FIRST], &[])),
-    At(3050, Known(FIRST, None)),
-    At(3051, QuietUntil(3500, false)),
-];
+const FOUND: &str = "
+0 add 1 1
+0 start 10
+0 quiet 10
+10 tick -> | 1
+10 known 1
+11 quiet 40
+40 tick -> | 1
+40 known 1
+41 quiet 51
+50 offer 1 1 3 30509 1 -> New
+50 known 1 -> 192.168.0.1 192.168.0.1:30509
+51 quiet 3050
+3049 known 1 -> 192.168.0.1 192.168.0.1:30509
+3050 tick -> 1 |
+3050 known 1
+3051 quiet 3500";
 
 /// A tick that is late, and those after it.
-const LATE: &[At] = &[
-    At(0, Add(SECOND, 1)),
-    At(0, Add(FIRST, 1)),
-    At(0, Start(10)),
-    At(1000, Tick(&[], &[FIRST, SECOND])),
-    At(1029, Tick(&[], &[])),
-    At(1030, Tick(&[], &[FIRST, SECOND])),
-    At(1090, Tick(&[], &[FIRST, SECOND])),
-];
+const LATE: &str = "
+0 add 2 1
+0 add 1 1
+0 start 10
+1000 tick -> | 1 2
+1029 tick
+1030 tick -> | 1 2
+1090 tick -> | 1 2";
 
 /// Without repetitions, and one more start.
-const ONCE: &[At] = &[
-    At(0, Add(FIRST, 1)),
-    At(0, Start(10)),
-    At(9, Tick(&[], &[])),
-    At(10, Tick(&[], &[FIRST])),
-    At(40, Tick(&[], &[])),
-    At(1010, Tick(&[], &[])),
-    At(5000, Tick(&[], &[])),
-    At(5000, Start(20)),
-    At(20, Tick(&[], &[FIRST])),
-];
+const ONCE: &str = "
+0 once
+0 add 1 1
+0 start 10
+9 tick
+10 tick -> | 1
+40 tick
+1010 tick
+5000 tick
+5000 start 20
+20 tick -> | 1";
 
 /// Offers that count, and those that do not.
-const COUNTED: &[At] = &[
-    At(0, Add(FIRST, 1)),
-    At(0, Start(10)),
-    At(
-        50,
-        Offer(
-            Offered {
-                instance: SECOND,
-                ..BARE
-            },
-            Err(Uncounted::Unwanted),
-        ),
-    ),
-    At(
-        50,
-        Offer(Offered { major: 2, ..BARE }, Err(Uncounted::Unwanted)),
-    ),
-    At(50, Offer(BARE, Err(Uncounted::NoEndpoint))),
-    At(50, Offer(OFFER, Ok(Counted::New))),
-    At(50, Offer(OFFER, Ok(Counted::Renewed))),
-    At(
-        50,
-        Offer(
-            Offered {
-                port: Some(30510),
-                ..OFFER
-            },
-            Ok(Counted::Moved),
-        ),
-    ),
-    At(50, Offer(BARE, Err(Uncounted::NoEndpoint))),
-    At(
-        50,
-        Offer(
-            Offered {
-                port: Some(30510),
-                by: 2,
-                ..OFFER
-            },
-            Err(Uncounted::OtherPeer),
-        ),
-    ),
-    At(50, Known(FIRST, Some((1, 30510)))),
-    At(50, Known(SECOND, None)),
-];
+const COUNTED: &str = "
+0 add 1 1
+0 start 10
+50 offer 2 1 3 0 1 -> Unwanted
+50 offer 1 2 3 0 1 -> Unwanted
+50 offer 1 1 3 0 1 -> NoEndpoint
+50 offer 1 1 3 30509 1 -> New
+50 offer 1 1 3 30509 1 -> Renewed
+50 offer 1 1 3 30510 1 -> Moved
+50 offer 1 1 3 0 1 -> NoEndpoint
+50 offer 1 1 3 30510 2 -> OtherPeer
+50 known 1 -> 192.168.0.1 192.168.0.1:30510
+50 known 2";
 
 /// An offer that passes at 3050, while host 2 offers the instance too.
-const PASSING: &[At] = &[
-    At(0, Add(FIRST, 1)),
-    At(0, Start(10)),
-    At(50, Offer(OFFER, Ok(Counted::New))),
-    At(
-        3049,
-        Offer(Offered { by: 2, ..LASTING }, Err(Uncounted::OtherPeer)),
-    ),
-    At(3050, Stop(FIRST, 1, 1, false)),
-    At(3050, Offer(Offered { by: 2, ..LASTING }, Ok(Counted::New))),
-    At(9223372036854775807, Known(FIRST, Some((2, 30509)))),
-];
+const PASSING: &str = "
+0 add 1 1
+0 start 10
+50 offer 1 1 3 30509 1 -> New
+3049 offer 1 1 0xffffff 30509 2 -> OtherPeer
+3050 stop 1 1 1 -> false
+3050 offer 1 1 0xffffff 30509 2 -> New
+9223372036854775807 known 1 -> 192.168.0.2 192.168.0.1:30509";
 
 /// StopOffers, and a start while an offer is known.
-const STOPPED: &[At] = &[
-    At(0, Add(FIRST, 1)),
-    At(50, Offer(LASTING, Ok(Counted::New))),
-    At(50, Stop(SECOND, 1, 1, false)),
-    At(50, Known(FIRST, Some((1, 30509)))),
-    At(50, Stop(FIRST, 2, 1, false)),
-    At(50, Known(FIRST, Some((1, 30509)))),
-    At(50, Stop(FIRST, 1, 2, false)),
-    At(50, Known(FIRST, Some((1, 30509)))),
-    At(50, Stop(FIRST, 1, 1, true)),
-    At(50, Known(FIRST, None)),
-    At(50, Stop(FIRST, 1, 1, false)),
-    At(50, Known(FIRST, None)),
-    At(50, Offer(LASTING, Ok(Counted::New))),
-    At(50, Start(10)),
-    At(50, Known(FIRST, None)),
-];
+const STOPPED: &str = "
+0 add 1 1
+50 offer 1 1 0xffffff 30509 1 -> New
+50 stop 2 1 1 -> false
+50 known 1 -> 192.168.0.1 192.168.0.1:30509
+50 stop 1 2 1 -> false
+50 known 1 -> 192.168.0.1 192.168.0.1:30509
+50 stop 1 1 2 -> false
+50 known 1 -> 192.168.0.1 192.168.0.1:30509
+50 stop 1 1 1 -> true
+50 known 1
+50 stop 1 1 1 -> false
+50 known 1
+50 offer 1 1 0xffffff 30509 1 -> New
+50 start 10
+50 known 1";
 
-/// Three offers, one of them by host 2, which begins again.
-const TOGETHER: &[At] = &[
-    At(0, Add(THIRD, 1)),
-    At(
-        50,
-        Offer(
-            Offered {
-                instance: THIRD,
-                ..OFFER
-            },
-            Ok(Counted::New),
-        ),
-    ),
-    At(50, Add(SECOND, 1)),
-    At(
-        50,
-        Offer(
-            Offered {
-                instance: SECOND,
-                by: 2,
-                ..OFFER
-            },
-            Ok(Counted::New),
-        ),
-    ),
-    At(50, Add(FIRST, 1)),
-    At(50, Offer(OFFER, Ok(Counted::New))),
-    At(50, Reboot(2, &[SECOND])),
-    At(50, Reboot(2, &[])),
-    At(3050, Tick(&[FIRST, THIRD], &[])),
-    At(3050, Tick(&[], &[])),
-];
+/// Three offers, one of them by host 2, which begins again: its own ends, and nothing else.
+const TOGETHER: &str = "
+0 add 3 1
+50 offer 3 1 3 30509 1 -> New
+50 add 2 1
+50 offer 2 1 3 30509 2 -> New
+50 add 1 1
+50 offer 1 1 3 30509 1 -> New
+50 reboot 2 -> 2
+50 reboot 2
+50 known 1 -> 192.168.0.1 192.168.0.1:30509
+50 known 2
+3050 tick -> 1 3 |
+3050 tick";
+
+/// Seven instances, of which each takes memory.
+const SEVEN: &str = "
+0 add 1 1
+0 add 2 1
+0 add 3 1
+0 add 4 1
+0 add 5 1
+0 add 6 1
+0 add 7 1
+0 start 10
+10 tick -> | 1 2 3 4 5 6 7
+20 offer 1 1 3 30509 1 -> New
+20 offer 2 1 1 30509 1 -> New
+20 offer 3 1 3 30509 2 -> New
+20 offer 4 1 3 30509 2 -> New
+40 tick -> | 5 6 7
+50 reboot 2 -> 3 4
+1020 tick -> 2 | 5 6 7
+1030 offer 5 1 0xffffff 30509 3 -> New
+1040 reboot 1 -> 1
+1042 known 5 -> 192.168.0.3 192.168.0.1:30509
+1042 known 6";
 
 /// The seeker, and the phases of its ticks.
 #[derive(Drop)]
@@ -241,124 +155,91 @@ struct Seeking {
     phases: Phases,
 }
 
-/// The number of the first of these rows that comes out otherwise.
-fn first_wrong(alloc: Global, phases: Phases, rows: &[At]) -> Option<usize> {
-    let mut on = Seeking {
-        seeker: Seeker::new(alloc),
-        phases,
-    };
-    first_wrong_step(alloc, &mut on, rows)
-}
-
-impl Step<Seeking> for At {
-    fn comes_out(&self, _alloc: Global, on: &mut Seeking) -> Option<bool> {
-        let At(millis, act) = *self;
-        act.comes_out(&mut on.seeker, on.phases, millis)
+impl Subject for Seeking {
+    fn make(alloc: Global) -> Result<Seeking, AllocError> {
+        Ok(Seeking {
+            seeker: Seeker::new(alloc),
+            phases: THREE,
+        })
     }
-}
 
-impl Act {
-    /// Whether the act comes out as it says, if there is such a moment.
-    fn comes_out(self, seeker: &mut Seeker, phases: Phases, millis: u64) -> Option<bool> {
-        let now = Moment::new(millis)?;
-        match self {
-            Add(instance, major) => Some(seeker.add(instance, major).is_ok()),
-            Start(delay) => Some(starts(seeker, delay)),
-            Tick(ended, finds) => Some(ticks(seeker, phases, now, ended, finds)),
-            QuietUntil(end, known) => is_quiet(seeker, phases, millis, end, known),
-            Offer(offered, counted) => counts(seeker, now, offered, counted),
-            Stop(instance, major, by, ended) => {
-                Some(seeker.stop(instance, major, address(by), now) == ended)
+    fn perform(&mut self, act: &Act<'_>, told: &mut Told) -> fmt::Result {
+        let Some(now) = Moment::new(act.at) else {
+            return Err(fmt::Error);
+        };
+        let number = instance(act.short(0));
+        match act.verb {
+            "once" => self.phases = NO_REPETITIONS,
+            "add" => return tell_refusal(told, &self.seeker.add(number, act.byte(1))),
+            "start" => self.seeker.start(act.word(0)),
+            "tick" => return tell_ticked(told, &self.seeker.tick(now, self.phases)),
+            "quiet" => return self.tick_until(act, told),
+            "offer" => match received(act) {
+                Some(offer) => return tell(told, &self.seeker.offer(&offer, now)),
+                None => return Err(fmt::Error),
+            },
+            "stop" => {
+                let is_ended = self.seeker.stop(number, act.byte(1), address(act.byte(2)), now);
+                write!(told, "{is_ended}")?;
             }
-            Reboot(by, ended) => Some(are_instances(seeker.peer_reboot(address(by), now), ended)),
-            Known(instance, known) => Some(seeker.known(instance, now) == known_at(known)),
+            "reboot" => {
+                return tell_instances(told, &self.seeker.peer_reboot(address(act.byte(0)), now));
+            }
+            "known" => {
+                if let Some(offer) = self.seeker.known(number, now) {
+                    write!(told, "{} {}", offer.peer, offer.endpoint)?;
+                }
+            }
+            _ => return Err(fmt::Error),
         }
+        Ok(())
     }
 }
 
-fn starts(seeker: &mut Seeker, delay: u32) -> bool {
-    seeker.start(delay);
-    true
+impl Seeking {
+    fn tick_until(&mut self, act: &Act<'_>, told: &mut Told) -> fmt::Result {
+        for millis in act.at..act.long(0) {
+            match Moment::new(millis) {
+                Some(now) => tell_ticked(told, &self.seeker.tick(now, self.phases))?,
+                None => return Err(fmt::Error),
+            }
+        }
+        Ok(())
+    }
 }
 
-fn ticks(
-    seeker: &mut Seeker,
-    phases: Phases,
-    now: Moment,
-    ended: &[InstanceId],
-    finds: &[InstanceId],
-) -> bool {
-    brings(seeker.tick(now, phases), ended, finds)
-}
-
-/// Whether a moment brings these ends and Finds.
-fn brings(ticked: Result<Ticked, AllocError>, ended: &[InstanceId], finds: &[InstanceId]) -> bool {
+/// Writes down what ended, and behind a bar which Finds go out, if anything comes of a tick.
+fn tell_ticked(told: &mut Told, ticked: &Result<Ticked, AllocError>) -> fmt::Result {
     match ticked {
-        Ok(ticked) => ticked.ended.as_slice() == ended && ticked.finds.as_slice() == finds,
-        Err(_) => false,
-    }
-}
-
-fn is_quiet(
-    seeker: &mut Seeker,
-    phases: Phases,
-    start: u64,
-    end: u64,
-    known: bool,
-) -> Option<bool> {
-    for millis in start..end {
-        let now = Moment::new(millis)?;
-        if !ticks(seeker, phases, now, &[], &[]) || seeker.known(FIRST, now).is_some() != known {
-            return Some(false);
+        Ok(ticked) if ticked.ended.is_empty() && ticked.finds.is_empty() => Ok(()),
+        Ok(ticked) => {
+            tell_numbers(told, &ticked.ended)?;
+            let space = if ticked.ended.is_empty() { "" } else { " " };
+            write!(told, "{space}|")?;
+            for instance in &ticked.finds {
+                write!(told, " {}", instance.instance)?;
+            }
+            Ok(())
         }
+        Err(refusal) => write!(told, "{refusal:?}"),
     }
-    Some(true)
-}
-
-fn counts(
-    seeker: &mut Seeker,
-    now: Moment,
-    offered: Offered,
-    counted: Result<Counted, Uncounted>,
-) -> Option<bool> {
-    let offer = received(offered)?;
-    Some(seeker.offer(&offer, now) == counted)
 }
 
 /// The Offer as it arrives, if there is such a TTL.
-fn received(offered: Offered) -> Option<ReceivedOffer> {
+fn received(act: &Act<'_>) -> Option<ReceivedOffer> {
     Some(ReceivedOffer {
-        instance: offered.instance,
-        major: offered.major,
-        ttl: Ttl::new(offered.ttl)?,
-        endpoint: endpoint_at(1, offered.port),
-        peer: address(offered.by),
+        instance: instance(act.short(0)),
+        major: act.byte(1),
+        ttl: Ttl::new(act.word(2))?,
+        endpoint: endpoint_at(1, act.short(3)),
+        peer: address(act.byte(4)),
     })
 }
-
-fn known_at(known: Option<(u8, u16)>) -> Option<KnownOffer> {
-    let (by, port) = known?;
-    Some(KnownOffer {
-        peer: address(by),
-        endpoint: endpoint(1, port),
-    })
-}
-
-/// Tables by their names, and how often what goes out is repeated.
-const TABLES: &[(&str, Repeats, &[At])] = &[
-    ("IN_PHASES", Repeats::Thrice, IN_PHASES),
-    ("FOUND", Repeats::Thrice, FOUND),
-    ("LATE", Repeats::Thrice, LATE),
-    ("ONCE", Repeats::Never, ONCE),
-    ("COUNTED", Repeats::Thrice, COUNTED),
-    ("PASSING", Repeats::Thrice, PASSING),
-    ("STOPPED", Repeats::Thrice, STOPPED),
-    ("TOGETHER", Repeats::Thrice, TOGETHER),
-];
 
 #[test]
 fn finds_and_known_offers(rt: HostRuntime) {
-    for (name, repeats, rows) in TABLES {
-        end_at(&rt, name, first_wrong(rt.alloc(), repeats.phases(), rows));
-    }
+    let tables = [
+        IN_PHASES, FOUND, LATE, ONCE, COUNTED, PASSING, STOPPED, TOGETHER, SEVEN,
+    ];
+    try_tables::<Seeking>(&rt, &tables);
 }

@@ -1,439 +1,197 @@
-//! Rows of subscriptions at their server.
-use super::{FIRST, SECOND, address, counter, endpoint, endpoint_at};
-use crate::rows::{Printed, Step, check, end_at, first_wrong_step};
-use Act::{Clear, IsLive, Live, Reboot, Stop, StopOffer, Subscribe, Tick};
-use sd_core::{
-    Cause, InstanceId, Subscribe as Request, SubscribeError, SubscribeRules, Subscribers,
-    Subscription,
-};
-use sd_session::{Channel, PeerTable, Seen};
-use sd_wire::Ttl;
+//! Rows of subscriptions at their server. `subscribe` has what is asked for, and then what the server knows: `INSTANCE
+//! EVENTGROUP HOST PORT COUNTER TTL LIMIT RULES`. Port 0 is none; of the rules 4 says that the instance is offered, 2 that
+//! its major version is the wanted one, 1 that the eventgroup is known. Further `stop INSTANCE EVENTGROUP HOST PORT
+//! COUNTER`, `stop-offer INSTANCE`, `reboot HOST`, `tick`, `live EVENTGROUP EVENTGROUP` of the instance 1,
+//! `is-live INSTANCE EVENTGROUP HOST PORT`, `clear`.
+use super::{address, endpoint, endpoint_at, instance};
+use crate::acts::{Act, Subject, Told, tell, tell_refusal};
+use crate::judging::try_tables;
+use sd_core::{Subscribe, SubscribeRules, Subscribers, Subscription};
+use sd_wire::{SubscriptionCounter, Ttl};
 use someip_tables::Moment;
 use std::alloc::{AllocError, Global};
-use std::collections::BTreeSet;
-use std::net::SocketAddrV4;
-
-/// What a host asks for. Its endpoint is a port of its own.
-#[derive(Clone, Copy)]
-struct Asked {
-    instance: InstanceId,
-    eventgroup: u16,
-    host: u8,
-    port: Option<u16>,
-    counter: u8,
-    ttl: u32,
-}
-
-/// A call of the subscribers, and what has to come of it.
-#[derive(Clone, Copy)]
-enum Act {
-    /// A Subscribe comes to a server that knows this of it.
-    Subscribe(SubscribeRules, Asked, Result<(), SubscribeError>),
-    /// A StopSubscribe of what was asked for comes: whether it was live.
-    Stop(Asked, bool),
-    /// The offer of an instance is stopped.
-    StopOffer(InstanceId),
-    /// A host began again.
-    Reboot(u8),
-    /// The clock ticks.
-    Tick,
-    /// The server is started again.
-    Clear,
-    /// An event in these eventgroups of the first instance goes to these ports of hosts, in this order.
-    Live(&'static [u16], &'static [(u8, u16)]),
-    /// Whether port 40001 of host 2 is subscribed to the eventgroup 1 of an instance.
-    IsLive(InstanceId, bool),
-}
-
-/// A moment, in milliseconds, and a call then.
-struct At(u64, Act);
-
-/// What a server knows that accepts a subscription, one to each eventgroup at a time.
-const ONE: SubscribeRules = SubscribeRules {
-    is_offered: true,
-    is_same_major: true,
-    is_known_eventgroup: true,
-    limit: 1,
-};
-
-const MANY: SubscribeRules = SubscribeRules { limit: 1024, ..ONE };
-
-/// What a server knows whose eventgroups take no subscription.
-const CLOSED: SubscribeRules = SubscribeRules { limit: 0, ..ONE };
-
-/// The eventgroup 1 of the first instance, for 3 seconds.
-const ASKED: Asked = Asked {
-    instance: FIRST,
-    eventgroup: 1,
-    host: 2,
-    port: Some(40001),
-    counter: 0,
-    ttl: 3,
-};
-
-/// The same by host 3.
-const OTHER: Asked = Asked { host: 3, ..ASKED };
-
-/// The first one again, without an endpoint.
-const WITHOUT: Asked = Asked {
-    port: None,
-    ..ASKED
-};
-
-/// What host 2 asks for of the second instance.
-const BESIDE: Asked = Asked {
-    instance: SECOND,
-    ..ASKED
-};
-
-const FULL: Result<(), SubscribeError> = Err(SubscribeError::Nack(Cause::Full));
+use std::fmt;
+use std::fmt::Write;
 
 /// A subscription for 3 seconds.
-const SHORT: &[At] = &[
-    At(0, Subscribe(ONE, ASKED, Ok(()))),
-    At(2999, Live(&[1], &[(2, 40001)])),
-    At(3000, Live(&[1], &[])),
-];
+const SHORT: &str = "
+0 subscribe 1 1 2 40001 0 3 1 7
+2999 live 1 -> {192.168.0.2:40001}
+3000 live 1 -> {}";
 
 /// One until the next reboot.
-const UNTIL_REBOOT: &[At] = &[
-    At(
-        0,
-        Subscribe(
-            ONE,
-            Asked {
-                ttl: 0xff_ffff,
-                ..ASKED
-            },
-            Ok(()),
-        ),
-    ),
-    At(3000, Live(&[1], &[(2, 40001)])),
-    At(9223372036854775807, Live(&[1], &[(2, 40001)])),
-];
+const UNTIL_REBOOT: &str = "
+0 subscribe 1 1 2 40001 0 0xffffff 1 7
+3000 live 1 -> {192.168.0.2:40001}
+9223372036854775807 live 1 -> {192.168.0.2:40001}";
 
 /// One for as long as can be told.
-const LONGEST: &[At] = &[
-    At(
-        0,
-        Subscribe(
-            ONE,
-            Asked {
-                ttl: 0xff_fffe,
-                ..ASKED
-            },
-            Ok(()),
-        ),
-    ),
-    At(16_777_213_999, Live(&[1], &[(2, 40001)])),
-    At(16_777_214_000, Live(&[1], &[])),
-];
+const LONGEST: &str = "
+0 subscribe 1 1 2 40001 0 0xfffffe 1 7
+16777213999 live 1 -> {192.168.0.2:40001}
+16777214000 live 1 -> {}";
 
 /// Two hosts, of which one may be subscribed at a time.
-const CROWDED: &[At] = &[
-    At(0, Subscribe(ONE, ASKED, Ok(()))),
-    At(10, Subscribe(ONE, OTHER, FULL)),
-    At(20, Subscribe(ONE, ASKED, Ok(()))),
-    At(3019, Subscribe(ONE, OTHER, FULL)),
-    At(3020, Subscribe(ONE, OTHER, Ok(()))),
-    At(3020, Subscribe(ONE, ASKED, FULL)),
-    At(
-        3020,
-        Subscribe(
-            ONE,
-            Asked {
-                eventgroup: 2,
-                ..ASKED
-            },
-            Ok(()),
-        ),
-    ),
-];
+const CROWDED: &str = "
+0 subscribe 1 1 2 40001 0 3 1 7
+10 subscribe 1 1 3 40001 0 3 1 7 -> Nack(Full)
+20 subscribe 1 1 2 40001 0 3 1 7
+3019 subscribe 1 1 3 40001 0 3 1 7 -> Nack(Full)
+3020 subscribe 1 1 3 40001 0 3 1 7
+3020 subscribe 1 1 2 40001 0 3 1 7 -> Nack(Full)
+3020 subscribe 1 2 2 40001 0 3 1 7";
 
 /// Requests that have every cause from one on.
-const REFUSED: &[At] = &[
-    At(
-        0,
-        Subscribe(
-            SubscribeRules {
-                is_offered: false,
-                is_same_major: false,
-                is_known_eventgroup: false,
-                ..CLOSED
-            },
-            WITHOUT,
-            Err(SubscribeError::Nack(Cause::NotOffered)),
-        ),
-    ),
-    At(
-        0,
-        Subscribe(
-            SubscribeRules {
-                is_same_major: false,
-                is_known_eventgroup: false,
-                ..CLOSED
-            },
-            WITHOUT,
-            Err(SubscribeError::Nack(Cause::WrongMajor)),
-        ),
-    ),
-    At(
-        0,
-        Subscribe(
-            SubscribeRules {
-                is_known_eventgroup: false,
-                ..CLOSED
-            },
-            WITHOUT,
-            Err(SubscribeError::Nack(Cause::UnknownEventgroup)),
-        ),
-    ),
-    At(
-        0,
-        Subscribe(
-            CLOSED,
-            WITHOUT,
-            Err(SubscribeError::Nack(Cause::NoEndpoint)),
-        ),
-    ),
-    At(0, Subscribe(CLOSED, ASKED, FULL)),
-];
+const REFUSED: &str = "
+0 subscribe 1 1 2 0 0 3 0 0 -> Nack(NotOffered)
+0 subscribe 1 1 2 0 0 3 0 4 -> Nack(WrongMajor)
+0 subscribe 1 1 2 0 0 3 0 6 -> Nack(UnknownEventgroup)
+0 subscribe 1 1 2 0 0 3 0 7 -> Nack(NoEndpoint)
+0 subscribe 1 1 2 40001 0 3 0 7 -> Nack(Full)";
 
 /// Two subscriptions of one endpoint, and others.
-const ENDPOINTS: &[At] = &[
-    At(0, Subscribe(MANY, ASKED, Ok(()))),
-    At(
-        0,
-        Subscribe(
-            MANY,
-            Asked {
-                counter: 1,
-                ..ASKED
-            },
-            Ok(()),
-        ),
-    ),
-    At(
-        0,
-        Subscribe(
-            MANY,
-            Asked {
-                eventgroup: 2,
-                port: Some(39999),
-                ..ASKED
-            },
-            Ok(()),
-        ),
-    ),
-    At(
-        0,
-        Subscribe(
-            MANY,
-            Asked {
-                host: 1,
-                port: Some(40003),
-                ..ASKED
-            },
-            Ok(()),
-        ),
-    ),
-    At(0, Live(&[2, 1], &[(1, 40003), (2, 39999), (2, 40001)])),
-    At(0, Live(&[2], &[(2, 39999)])),
-];
+const ENDPOINTS: &str = "
+0 subscribe 1 1 2 40001 0 3 1024 7
+0 subscribe 1 1 2 40001 1 3 1024 7
+0 subscribe 1 2 2 39999 0 3 1024 7
+0 subscribe 1 1 1 40003 0 3 1024 7
+0 live 2 1 -> {192.168.0.1:40003, 192.168.0.2:39999, 192.168.0.2:40001}
+0 live 2 -> {192.168.0.2:39999}";
 
 /// Ways in which a subscription ends: time, a StopSubscribe, a stopped offer.
-const ENDING: &[At] = &[
-    At(0, Subscribe(ONE, ASKED, Ok(()))),
-    At(0, Subscribe(ONE, BESIDE, Ok(()))),
-    At(
-        0,
-        Stop(
-            Asked {
-                counter: 1,
-                ..ASKED
+const ENDING: &str = "
+0 subscribe 1 1 2 40001 0 3 1 7
+0 subscribe 2 1 2 40001 0 3 1 7
+0 stop 1 1 2 40001 1 -> false
+3000 stop 1 1 2 40001 0 -> false
+0 subscribe 1 1 2 40001 0 3 1 7
+0 is-live 1 1 2 40001 -> true
+0 stop 1 1 2 40001 0 -> true
+0 is-live 1 1 2 40001 -> false
+0 subscribe 1 1 2 40001 0 3 1 7
+0 stop-offer 1
+0 is-live 1 1 2 40001 -> false
+0 is-live 2 1 2 40001 -> true
+2999 tick
+0 is-live 2 1 2 40001 -> true
+3000 tick
+0 is-live 2 1 2 40001 -> false
+0 subscribe 1 1 2 40001 0 3 1 7
+0 clear
+0 is-live 1 1 2 40001 -> false";
+
+/// A host that begins again: its own subscription ends, and no other.
+const REBOOT: &str = "
+0 subscribe 1 1 2 40001 0 3 1024 7
+0 subscribe 1 1 3 40001 0 3 1024 7
+0 reboot 2
+0 live 1 -> {192.168.0.3:40001}";
+
+/// Hosts one after the other, of which each takes memory.
+const SEVEN: &str = "
+0 subscribe 1 1 2 40001 0 3 8 7
+0 subscribe 1 1 3 40001 0 1 8 7
+0 subscribe 1 1 4 40001 0 3 8 7
+0 subscribe 1 1 5 40001 0 3 8 7
+0 subscribe 1 1 6 40001 0 3 8 7
+0 subscribe 1 1 7 40001 0 3 8 7
+0 subscribe 1 1 8 40001 0 3 8 7
+0 subscribe 1 2 2 40001 0 3 8 7
+0 live 1 2 -> {192.168.0.2:40001, 192.168.0.3:40001, 192.168.0.4:40001, 192.168.0.5:40001, 192.168.0.6:40001, 192.168.0.7:40001, 192.168.0.8:40001}
+500 subscribe 1 1 2 40001 0 3 8 7
+1000 tick
+1000 live 1 -> {192.168.0.2:40001, 192.168.0.4:40001, 192.168.0.5:40001, 192.168.0.6:40001, 192.168.0.7:40001, 192.168.0.8:40001}
+1000 stop 1 1 4 40001 0 -> true
+1000 reboot 5
+1000 live 1 2 -> {192.168.0.2:40001, 192.168.0.6:40001, 192.168.0.7:40001, 192.168.0.8:40001}
+1000 subscribe 1 1 9 40001 0 3 8 7
+1000 subscribe 1 1 10 40001 0 3 8 7
+1000 subscribe 1 1 11 40001 0 3 8 7
+1000 is-live 1 1 9 40001 -> true
+1000 is-live 1 1 12 40001 -> false";
+
+impl Subject for Subscribers {
+    fn make(alloc: Global) -> Result<Subscribers, AllocError> {
+        Ok(Subscribers::new(alloc))
+    }
+
+    fn perform(&mut self, act: &Act<'_>, told: &mut Told) -> fmt::Result {
+        let Some(now) = Moment::new(act.at) else {
+            return Err(fmt::Error);
+        };
+        match act.verb {
+            "subscribe" => match request(act) {
+                Some(asked) => return tell_refusal(told, &self.subscribe(rules(act), asked, now)),
+                None => return Err(fmt::Error),
             },
-            false,
-        ),
-    ),
-    At(3000, Stop(ASKED, false)),
-    At(0, Subscribe(ONE, ASKED, Ok(()))),
-    At(0, IsLive(FIRST, true)),
-    At(0, Stop(ASKED, true)),
-    At(0, IsLive(FIRST, false)),
-    At(0, Subscribe(ONE, ASKED, Ok(()))),
-    At(0, StopOffer(FIRST)),
-    At(0, IsLive(FIRST, false)),
-    At(0, IsLive(SECOND, true)),
-    At(2999, Tick),
-    At(0, IsLive(SECOND, true)),
-    At(3000, Tick),
-    At(0, IsLive(SECOND, false)),
-    At(0, Subscribe(ONE, ASKED, Ok(()))),
-    At(0, Clear),
-    At(0, IsLive(FIRST, false)),
-];
-
-/// A message of a host: its session, what that shows of the host, and what the server does then.
-const HEARD: &[(u8, u16, Seen, At)] = &[
-    (2, 1, Seen::Same, At(0, Subscribe(MANY, ASKED, Ok(())))),
-    (3, 1, Seen::Same, At(0, Subscribe(MANY, OTHER, Ok(())))),
-    (3, 2, Seen::Same, At(0, Subscribe(MANY, OTHER, Ok(())))),
-    (2, 1, Seen::Rebooted, At(0, Reboot(2))),
-];
-
-/// What is left then: the subscription of host 3.
-const LEFT: &[At] = &[At(0, Live(&[1], &[(3, 40001)]))];
-
-/// The number of the first of these rows that comes out otherwise.
-fn first_wrong(alloc: Global, rows: &[At]) -> Option<usize> {
-    let mut subscribers = Subscribers::new(alloc);
-    first_wrong_step(alloc, &mut subscribers, rows)
+            "stop" => match subscription(act) {
+                Some(stopped) => write!(told, "{}", self.stop(stopped, now))?,
+                None => return Err(fmt::Error),
+            },
+            "stop-offer" => self.stop_offer(instance(act.short(0))),
+            "reboot" => self.peer_reboot(address(act.byte(0))),
+            "tick" => Subscribers::tick(self, now),
+            "live" => {
+                return tell(told, &self.live(instance(1), &[act.short(0), act.short(1)], now));
+            }
+            "is-live" => {
+                let endpoint = endpoint(act.byte(2), act.short(3));
+                let is_live = self.is_live(instance(act.short(0)), act.short(1), endpoint, now);
+                write!(told, "{is_live}")?;
+            }
+            "clear" => self.clear(),
+            _ => return Err(fmt::Error),
+        }
+        Ok(())
+    }
 }
 
-impl Step<Subscribers> for At {
-    fn comes_out(&self, _alloc: Global, subscribers: &mut Subscribers) -> Option<bool> {
-        let At(millis, act) = *self;
-        let now = Moment::new(millis)?;
-        match act {
-            Subscribe(rules, asked, answer) => {
-                Some(subscribers.subscribe(rules, request(asked)?, now) == answer)
-            }
-            Stop(asked, was_live) => Some(subscribers.stop(subscription(asked)?, now) == was_live),
-            StopOffer(instance) => Some(ends_offer(subscribers, instance)),
-            Reboot(host) => Some(ends_peer(subscribers, host)),
-            Tick => Some(ticks(subscribers, now)),
-            Clear => Some(clears(subscribers)),
-            Live(eventgroups, ports) => {
-                Some(are_ports(subscribers.live(FIRST, eventgroups, now), ports))
-            }
-            IsLive(instance, is_live) => {
-                Some(subscribers.is_live(instance, 1, endpoint(2, 40001), now) == is_live)
-            }
-        }
+/// What the server knows.
+fn rules(act: &Act<'_>) -> SubscribeRules {
+    let known = act.long(7);
+    SubscribeRules {
+        is_offered: known >= 4,
+        is_same_major: known % 4 >= 2,
+        is_known_eventgroup: known % 2 == 1,
+        limit: usize::from(act.short(6)),
     }
 }
 
 /// The Subscribe, if there are such a counter and TTL.
-fn request(asked: Asked) -> Option<Request> {
-    Some(Request {
-        instance: asked.instance,
-        eventgroup: asked.eventgroup,
-        peer: address(asked.host),
-        endpoint: endpoint_at(asked.host, asked.port),
-        counter: counter(asked.counter)?,
-        ttl: Ttl::new(asked.ttl)?,
+fn request(act: &Act<'_>) -> Option<Subscribe> {
+    Some(Subscribe {
+        instance: instance(act.short(0)),
+        eventgroup: act.short(1),
+        peer: address(act.byte(2)),
+        endpoint: endpoint_at(act.byte(2), act.short(3)),
+        counter: SubscriptionCounter::new(act.byte(4))?,
+        ttl: Ttl::new(act.word(5))?,
     })
 }
 
-/// What is asked for, if it has an endpoint, and there is such a counter.
-fn subscription(asked: Asked) -> Option<Subscription> {
+/// What a StopSubscribe ends, if there is such a counter.
+fn subscription(act: &Act<'_>) -> Option<Subscription> {
     Some(Subscription {
-        instance: asked.instance,
-        eventgroup: asked.eventgroup,
-        peer: address(asked.host),
-        endpoint: endpoint(asked.host, asked.port?),
-        counter: counter(asked.counter)?,
+        instance: instance(act.short(0)),
+        eventgroup: act.short(1),
+        peer: address(act.byte(2)),
+        endpoint: endpoint(act.byte(2), act.short(3)),
+        counter: SubscriptionCounter::new(act.byte(4))?,
     })
 }
-
-fn ends_offer(subscribers: &mut Subscribers, instance: InstanceId) -> bool {
-    subscribers.stop_offer(instance);
-    true
-}
-
-fn ends_peer(subscribers: &mut Subscribers, host: u8) -> bool {
-    subscribers.peer_reboot(address(host));
-    true
-}
-
-fn ticks(subscribers: &mut Subscribers, now: Moment) -> bool {
-    subscribers.tick(now);
-    true
-}
-
-fn clears(subscribers: &mut Subscribers) -> bool {
-    subscribers.clear();
-    true
-}
-
-/// Whether the endpoints are these ports of hosts, in this order.
-fn are_ports(live: Result<BTreeSet<SocketAddrV4>, AllocError>, ports: &[(u8, u16)]) -> bool {
-    match live {
-        Ok(mut endpoints) => takes_all(&mut endpoints, ports),
-        Err(_) => false,
-    }
-}
-
-fn takes_all(endpoints: &mut BTreeSet<SocketAddrV4>, ports: &[(u8, u16)]) -> bool {
-    for (host, port) in ports {
-        if endpoints.pop_first() != Some(endpoint(*host, *port)) {
-            return false;
-        }
-    }
-    endpoints.is_empty()
-}
-
-/// The number of the first message that shows something else of its host, or that the server does not take
-/// as it has to.
-fn first_unheard(
-    alloc: Global,
-    peers: &mut PeerTable,
-    subscribers: &mut Subscribers,
-) -> Option<usize> {
-    for (index, (host, session, seen, row)) in HEARD.iter().enumerate() {
-        if !shows(peers, *host, *session, *seen)
-            || row.comes_out(alloc, subscribers) != Some(true)
-        {
-            return Some(index);
-        }
-    }
-    None
-}
-
-/// Whether a message with this session shows that of its host.
-fn shows(peers: &mut PeerTable, host: u8, session: u16, seen: Seen) -> bool {
-    peers.saw(address(host), Channel::Unicast, session, true) == Ok(seen)
-}
-
-const NAMES: &[Printed<SubscribeError>] = &[
-    Printed(SubscribeError::Nack(Cause::NotOffered), "NotOffered"),
-    Printed(SubscribeError::Nack(Cause::WrongMajor), "WrongMajor"),
-    Printed(
-        SubscribeError::Nack(Cause::UnknownEventgroup),
-        "UnknownEventgroup",
-    ),
-    Printed(SubscribeError::Nack(Cause::NoEndpoint), "NoEndpoint"),
-    Printed(SubscribeError::Nack(Cause::Full), "Full"),
-    Printed(SubscribeError::OutOfMemory, "out of memory"),
-];
-
-/// Tables by their names.
-const TABLES: &[(&str, &[At])] = &[
-    ("SHORT", SHORT),
-    ("UNTIL_REBOOT", UNTIL_REBOOT),
-    ("LONGEST", LONGEST),
-    ("CROWDED", CROWDED),
-    ("REFUSED", REFUSED),
-    ("ENDPOINTS", ENDPOINTS),
-    ("ENDING", ENDING),
-];
 
 #[test]
 fn subscriptions_at_a_server(rt: HostRuntime) {
-    for (name, rows) in TABLES {
-        end_at(&rt, name, first_wrong(rt.alloc(), rows));
-    }
-}
-
-#[test]
-fn refusals_are_printed(rt: HostRuntime) {
-    check(&rt, rt.alloc(), "NAMES", NAMES);
-}
-
-#[test]
-fn a_reboot_ends_what_came_from_that_peer(rt: HostRuntime) {
-    let mut peers = PeerTable::new(rt.alloc(), 64);
-    let mut subscribers = Subscribers::new(rt.alloc());
-    assert!(rt; first_unheard(rt.alloc(), &mut peers, &mut subscribers).is_none());
-    assert!(rt; first_wrong_step(rt.alloc(), &mut subscribers, LEFT).is_none());
+    let tables = [
+        SHORT,
+        UNTIL_REBOOT,
+        LONGEST,
+        CROWDED,
+        REFUSED,
+        ENDPOINTS,
+        ENDING,
+        REBOOT,
+        SEVEN,
+    ];
+    try_tables::<Subscribers>(&rt, &tables);
 }

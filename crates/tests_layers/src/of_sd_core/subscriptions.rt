@@ -1,417 +1,246 @@
-//! Rows of a client's subscriptions.
-use super::{FIRST, SECOND, THIRD, address, counter};
-use crate::rows::{Step, end_at, first_wrong_step};
-use Act::{Ack, Clear, IsSubscribed, Nack, Offer, Reboot, Stop, Tick, Unwant, Want};
-use sd_core::{
-    Acked, Beginning, Eventgroup, InstanceId, OutgoingSubscribe, SubscribeAnswer, Subscriptions,
-};
+//! Rows of a client's subscriptions: `want INSTANCE EVENTGROUP HOST` (host 0 where no host offers the instance; answered
+//! is the counter of the Subscribe that goes out), `unwant INSTANCE EVENTGROUP`, `offer INSTANCE HOST` (which Subscribes go
+//! out, and their counters), `ack` and `nack INSTANCE EVENTGROUP HOST COUNTER TTL MAJOR` (MAJOR is 1 for the wanted
+//! version), `stop INSTANCE`, `reboot HOST`, `tick`, `is INSTANCE EVENTGROUP`, `turns COUNT` (so many wishes of the same
+//! eventgroup, each stated twice and taken back twice, by the counters of their Subscribes), `clear`.
+use super::{address, instance, tell_groups};
+use crate::acts::{Act, Subject, Told};
+use crate::judging::try_tables;
+use sd_core::{Eventgroup, OutgoingSubscribe, SubscribeAnswer, Subscriptions};
 use sd_wire::{SubscriptionCounter, Ttl};
-use someip_tables::{Deadline, Moment};
+use someip_tables::Moment;
 use std::alloc::{AllocError, Global};
+use std::fmt;
+use std::fmt::Write;
 use std::net::Ipv4Addr;
 
-/// What a host says of an eventgroup.
-#[derive(Clone, Copy)]
-struct Said {
-    eventgroup: Eventgroup,
-    has_wanted_major: bool,
-    host: u8,
-    counter: u8,
-}
-
-/// A call of the subscriptions, and what has to come of it.
-#[derive(Clone, Copy)]
-enum Act {
-    /// An eventgroup is wished, whose instance is offered by a host or by none: the counter of the
-    /// Subscribe that goes out.
-    Want(Eventgroup, Option<u8>, Option<u8>),
-    /// A wish is taken back: the host, the counter and the deadline of what ends.
-    Unwant(Eventgroup, Option<(u8, u8, Option<Deadline>)>),
-    /// An Offer of an instance comes from a host: the Subscribes that go out, and their counters.
-    Offer(InstanceId, u8, &'static [(Eventgroup, u8)]),
-    /// An Ack comes, with a TTL in seconds.
-    Ack(Said, u32, Acked),
-    /// A Nack comes: whether a subscription ended.
-    Nack(Said, bool),
-    /// A StopOffer of an instance ends these.
-    Stop(InstanceId, &'static [Eventgroup]),
-    /// A host began again, which ends these.
-    Reboot(u8, &'static [Eventgroup]),
-    /// The clock ticks, which ends these.
-    Tick(&'static [Eventgroup]),
-    /// Whether an eventgroup is subscribed.
-    IsSubscribed(Eventgroup, bool),
-    /// The client is started again.
-    Clear,
-}
-
-/// A moment, in milliseconds, and a call then.
-struct At(u64, Act);
-
-/// The eventgroup 1 of the first instance.
-const GROUP: Eventgroup = Eventgroup {
-    instance: FIRST,
-    id: 1,
-};
-
-/// The eventgroup 2 of the first instance.
-const SECOND_GROUP: Eventgroup = Eventgroup {
-    instance: FIRST,
-    id: 2,
-};
-
-/// The eventgroup 1 of the second instance.
-const OF_SECOND: Eventgroup = Eventgroup {
-    instance: SECOND,
-    id: 1,
-};
-
-/// The eventgroup 1 of the third instance.
-const OF_THIRD: Eventgroup = Eventgroup {
-    instance: THIRD,
-    id: 1,
-};
-
-/// What host 1 says of the first subscription to the eventgroup 1 of the first instance.
-const GOOD: Said = Said {
-    eventgroup: GROUP,
-    has_wanted_major: true,
-    host: 1,
-    counter: 0,
-};
-
-/// The counter after sixteen turns, and after a new start.
-const ANEW: &[At] = &[
-    At(0, Clear),
-    At(0, Want(GROUP, Some(1), Some(0))),
-    At(0, Want(SECOND_GROUP, None, None)),
-];
+/// Counters after sixteen turns, and after a new start.
+const ANEW: &str = "
+0 turns 17 -> 0 1 2 3 4 5 6 7 8 9 10 11 12 13 14 15 0
+0 clear
+0 want 1 1 1 -> 0
+0 want 1 2 0";
 
 /// Answers each of which is another one in one part.
-const OTHERS: &[At] = &[
-    At(0, Want(GROUP, Some(1), Some(0))),
-    At(100, Ack(Said { counter: 1, ..GOOD }, 5, Acked::NotPending)),
-    At(100, Nack(Said { counter: 1, ..GOOD }, false)),
-    At(100, Ack(Said { host: 9, ..GOOD }, 5, Acked::NotPending)),
-    At(100, Nack(Said { host: 9, ..GOOD }, false)),
-    At(
-        100,
-        Ack(
-            Said {
-                has_wanted_major: false,
-                ..GOOD
-            },
-            5,
-            Acked::NotPending,
-        ),
-    ),
-    At(
-        100,
-        Nack(
-            Said {
-                has_wanted_major: false,
-                ..GOOD
-            },
-            false,
-        ),
-    ),
-    At(
-        100,
-        Ack(
-            Said {
-                eventgroup: SECOND_GROUP,
-                ..GOOD
-            },
-            5,
-            Acked::NotPending,
-        ),
-    ),
-    At(
-        100,
-        Nack(
-            Said {
-                eventgroup: SECOND_GROUP,
-                ..GOOD
-            },
-            false,
-        ),
-    ),
-    At(
-        100,
-        Ack(
-            Said {
-                eventgroup: OF_SECOND,
-                ..GOOD
-            },
-            5,
-            Acked::NotPending,
-        ),
-    ),
-    At(
-        100,
-        Nack(
-            Said {
-                eventgroup: OF_SECOND,
-                ..GOOD
-            },
-            false,
-        ),
-    ),
-    At(100, IsSubscribed(GROUP, false)),
-];
+const OTHERS: &str = "
+0 want 1 1 1 -> 0
+100 ack 1 1 1 1 5 1 -> NotPending
+100 nack 1 1 1 1 0 1 -> false
+100 ack 1 1 9 0 5 1 -> NotPending
+100 nack 1 1 9 0 0 1 -> false
+100 ack 1 1 1 0 5 0 -> NotPending
+100 nack 1 1 1 0 0 0 -> false
+100 ack 1 2 1 0 5 1 -> NotPending
+100 nack 1 2 1 0 0 1 -> false
+100 ack 2 1 1 0 5 1 -> NotPending
+100 nack 2 1 1 0 0 1 -> false
+100 is 1 1 -> false";
 
 /// Acks that come one after the other.
-const LATEST: &[At] = &[
-    At(0, Want(GROUP, Some(1), Some(0))),
-    At(100, Ack(GOOD, 5, Acked::Subscribed)),
-    At(5099, IsSubscribed(GROUP, true)),
-    At(5100, IsSubscribed(GROUP, false)),
-    At(200, Ack(GOOD, 1, Acked::Renewed)),
-    At(1199, IsSubscribed(GROUP, true)),
-    At(1200, IsSubscribed(GROUP, false)),
-    At(1200, Ack(GOOD, 5, Acked::NotPending)),
-    At(1199, IsSubscribed(GROUP, true)),
-    At(1200, IsSubscribed(GROUP, false)),
-    At(1200, Nack(GOOD, false)),
-];
+const LATEST: &str = "
+0 want 1 1 1 -> 0
+100 ack 1 1 1 0 5 1 -> Subscribed
+5099 is 1 1 -> true
+5100 is 1 1 -> false
+200 ack 1 1 1 0 1 1 -> Renewed
+1199 is 1 1 -> true
+1200 is 1 1 -> false
+1200 ack 1 1 1 0 5 1 -> NotPending
+1199 is 1 1 -> true
+1200 is 1 1 -> false
+1200 nack 1 1 1 0 0 1 -> false";
 
 /// Offers, and a Nack between them.
-const OFFERED: &[At] = &[
-    At(0, Want(SECOND_GROUP, None, None)),
-    At(0, Want(GROUP, None, None)),
-    At(0, Want(OF_SECOND, None, None)),
-    At(0, Offer(FIRST, 1, &[(GROUP, 0), (SECOND_GROUP, 0)])),
-    At(1000, Offer(FIRST, 1, &[(GROUP, 0), (SECOND_GROUP, 0)])),
-    At(1000, Nack(GOOD, true)),
-    At(1000, Nack(GOOD, false)),
-    At(1000, Offer(FIRST, 1, &[(GROUP, 1), (SECOND_GROUP, 0)])),
-    At(1000, Offer(THIRD, 1, &[])),
-];
+const OFFERED: &str = "
+0 want 1 2 0
+0 want 1 1 0
+0 want 2 1 0
+0 offer 1 1 -> 1/1:0 1/2:0
+1000 offer 1 1 -> 1/1:0 1/2:0
+1000 nack 1 1 1 0 0 1 -> true
+1000 nack 1 1 1 0 0 1 -> false
+1000 offer 1 1 -> 1/1:1 1/2:0
+1000 offer 3 1";
 
 /// Ways in which subscriptions end: time, a StopOffer, a reboot.
-const ENDING: &[At] = &[
-    At(0, Want(OF_SECOND, Some(1), Some(0))),
-    At(0, Want(SECOND_GROUP, Some(1), Some(0))),
-    At(0, Want(GROUP, Some(1), Some(0))),
-    At(0, Want(OF_THIRD, Some(9), Some(0))),
-    At(0, Stop(FIRST, &[GROUP, SECOND_GROUP])),
-    At(0, Want(GROUP, Some(1), Some(1))),
-    At(0, Reboot(1, &[GROUP, OF_SECOND])),
-    At(
-        0,
-        Ack(
-            Said {
-                eventgroup: OF_THIRD,
-                host: 9,
-                ..GOOD
-            },
-            1,
-            Acked::Subscribed,
-        ),
-    ),
-    At(999, Tick(&[])),
-    At(1000, Tick(&[OF_THIRD])),
-    At(1000, Tick(&[])),
-];
+const ENDING: &str = "
+0 want 2 1 1 -> 0
+0 want 1 2 1 -> 0
+0 want 1 1 1 -> 0
+0 want 3 1 9 -> 0
+0 stop 1 -> 1/1 1/2
+0 want 1 1 1 -> 1
+0 reboot 1 -> 1/1 2/1
+0 ack 3 1 9 0 1 1 -> Subscribed
+999 tick
+1000 tick -> 3/1
+1000 tick";
 
 /// A subscription that lasts, and ends with its wish.
-const TAKEN_BACK: &[At] = &[
-    At(0, Want(GROUP, Some(1), Some(0))),
-    At(0, Ack(GOOD, 0xff_ffff, Acked::Subscribed)),
-    At(
-        1099511627776,
-        Unwant(GROUP, Some((1, 0, Some(Deadline::Never)))),
-    ),
-    At(0, IsSubscribed(GROUP, false)),
-    At(0, Offer(FIRST, 1, &[])),
-];
+const TAKEN_BACK: &str = "
+0 want 1 1 1 -> 0
+0 ack 1 1 1 0 0xffffff 1 -> Subscribed
+1099511627776 unwant 1 1 -> 192.168.0.1 0 Some(Never)
+0 is 1 1 -> false
+0 offer 1 1";
 
-/// The number of the first of these rows that comes out otherwise.
-fn first_wrong(alloc: Global, rows: &[At]) -> Option<usize> {
-    let mut subscriptions = Subscriptions::new(alloc);
-    first_wrong_step(alloc, &mut subscriptions, rows)
-}
+/// Wishes one after the other, of which each takes memory.
+const SEVEN: &str = "
+0 want 1 1 1 -> 0
+0 want 1 2 1 -> 0
+0 want 1 3 0
+0 want 2 1 0
+0 want 2 2 2 -> 0
+0 want 3 1 3 -> 0
+0 want 3 2 3 -> 0
+10 ack 1 1 1 0 3 1 -> Subscribed
+10 ack 1 2 1 0 1 1 -> Subscribed
+10 ack 2 2 2 0 3 1 -> Subscribed
+10 ack 3 1 3 0 5 1 -> Subscribed
+10 ack 3 2 3 0 5 1 -> Subscribed
+20 offer 1 1 -> 1/1:0 1/2:0 1/3:0
+20 offer 2 2 -> 2/1:0 2/2:0
+1010 tick -> 1/2
+1020 stop 2 -> 2/1 2/2
+1030 reboot 3 -> 3/1 3/2
+1040 want 4 1 1 -> 0
+1041 ack 4 1 1 0 3 1 -> Subscribed
+1041 is 4 1 -> true";
 
-impl Step<Subscriptions> for At {
-    fn comes_out(&self, _alloc: Global, subscriptions: &mut Subscriptions) -> Option<bool> {
-        let At(millis, act) = *self;
-        let now = Moment::new(millis)?;
-        match act {
-            Want(eventgroup, host, sent) => wants(subscriptions, now, eventgroup, host, sent),
-            Unwant(eventgroup, stood) => unwants(subscriptions, now, eventgroup, stood),
-            Offer(instance, host, sent) => Some(are_sent(
-                subscriptions.offer(instance, address(host), now),
-                sent,
-            )),
-            Ack(said, ttl, told) => acks(subscriptions, now, said, ttl, told),
-            Nack(said, ended) => Some(subscriptions.nack(answer(said)?, now) == ended),
-            Stop(instance, ended) => Some(are_groups(subscriptions.stop(instance), ended)),
-            Reboot(host, ended) => {
-                Some(are_groups(subscriptions.peer_reboot(address(host)), ended))
+impl Subject for Subscriptions {
+    fn make(alloc: Global) -> Result<Subscriptions, AllocError> {
+        Ok(Subscriptions::new(alloc))
+    }
+
+    fn perform(&mut self, act: &Act<'_>, told: &mut Told) -> fmt::Result {
+        let Some(now) = Moment::new(act.at) else {
+            return Err(fmt::Error);
+        };
+        let group = eventgroup(act);
+        match act.verb {
+            "want" => return tell_counter(told, &self.want(group, host(act.byte(2)), now)),
+            "unwant" => return take_back(self, group, now, told),
+            "offer" => {
+                let host = address(act.byte(1));
+                return tell_sent(told, &self.offer(group.instance, host, now));
             }
-            Tick(ended) => Some(are_groups(subscriptions.tick(now, &[]), ended)),
-            IsSubscribed(eventgroup, is) => {
-                Some(subscriptions.is_subscribed(&eventgroup, now) == is)
-            }
-            Clear => Some(clears(subscriptions)),
+            "ack" => match (answer(act), Ttl::new(act.word(4))) {
+                (Some(ack), Some(ttl)) => write!(told, "{:?}", self.ack(ack, ttl, now))?,
+                _ => return Err(fmt::Error),
+            },
+            "nack" => match answer(act) {
+                Some(nack) => write!(told, "{}", self.nack(nack, now))?,
+                None => return Err(fmt::Error),
+            },
+            "stop" => return tell_groups(told, &self.stop(group.instance)),
+            "reboot" => return tell_groups(told, &self.peer_reboot(address(act.byte(0)))),
+            "tick" => return tell_groups(told, &Subscriptions::tick(self, now, &[])),
+            "is" => write!(told, "{}", self.is_subscribed(&group, now))?,
+            "turns" => return take_turns(self, act.long(0), now, told),
+            "clear" => self.clear(),
+            _ => return Err(fmt::Error),
         }
+        Ok(())
     }
 }
 
-fn unwants(
-    subscriptions: &mut Subscriptions,
-    now: Moment,
-    eventgroup: Eventgroup,
-    stood: Option<(u8, u8, Option<Deadline>)>,
-) -> Option<bool> {
-    let wanted = beginning(stood)?;
-    Some(subscriptions.unwant(eventgroup, now) == wanted)
-}
-
-fn acks(
-    subscriptions: &mut Subscriptions,
-    now: Moment,
-    said: Said,
-    ttl: u32,
-    told: Acked,
-) -> Option<bool> {
-    let answer = answer(said)?;
-    Some(subscriptions.ack(answer, Ttl::new(ttl)?, now) == told)
-}
-
-fn wants(
-    subscriptions: &mut Subscriptions,
-    now: Moment,
-    eventgroup: Eventgroup,
-    host: Option<u8>,
-    sent: Option<u8>,
-) -> Option<bool> {
-    let wanted = counter_of(sent)?;
-    Some(subscriptions.want(eventgroup, address_at(host), now) == Ok(wanted))
-}
-
-/// The address of a host, if there is one.
-fn address_at(host: Option<u8>) -> Option<Ipv4Addr> {
-    Some(address(host?))
-}
-
-/// The counter with this number, if there is a number; none where there is no such counter.
-fn counter_of(number: Option<u8>) -> Option<Option<SubscriptionCounter>> {
-    match number {
-        Some(number) => Some(Some(counter(number)?)),
-        None => Some(None),
+fn eventgroup(act: &Act<'_>) -> Eventgroup {
+    Eventgroup {
+        instance: instance(act.short(0)),
+        id: act.short(1),
     }
 }
 
-/// What stood, if anything did; none where there is no such counter.
-fn beginning(stood: Option<(u8, u8, Option<Deadline>)>) -> Option<Option<Beginning>> {
-    let Some((host, number, until)) = stood else {
-        return Some(None);
-    };
-    Some(Some(Beginning {
-        peer: address(host),
-        counter: counter(number)?,
-        until,
-    }))
+/// The address of the host that offers an instance, if one does.
+fn host(number: u8) -> Option<Ipv4Addr> {
+    if number == 0 {
+        None
+    } else {
+        Some(address(number))
+    }
 }
 
 /// The Ack or the Nack, if there is such a counter.
-fn answer(said: Said) -> Option<SubscribeAnswer> {
+fn answer(act: &Act<'_>) -> Option<SubscribeAnswer> {
     Some(SubscribeAnswer {
-        eventgroup: said.eventgroup,
-        has_wanted_major: said.has_wanted_major,
-        peer: address(said.host),
-        counter: counter(said.counter)?,
+        eventgroup: eventgroup(act),
+        has_wanted_major: act.is(5),
+        peer: address(act.byte(2)),
+        counter: SubscriptionCounter::new(act.byte(3))?,
     })
 }
 
-fn clears(subscriptions: &mut Subscriptions) -> bool {
-    subscriptions.clear();
-    true
-}
-
-/// Whether the Subscribes go to these eventgroups, with these counters, in this order.
-fn are_sent(
-    answer: Result<Vec<OutgoingSubscribe>, AllocError>,
-    wanted: &[(Eventgroup, u8)],
-) -> bool {
-    match answer {
-        Ok(sent) => are_subscribes(&sent, wanted),
-        Err(_) => false,
+/// Writes down the counter of the Subscribe that goes out, if one does, or the refusal.
+fn tell_counter(
+    told: &mut Told,
+    sent: &Result<Option<SubscriptionCounter>, AllocError>,
+) -> fmt::Result {
+    match sent {
+        Ok(Some(counter)) => write!(told, "{}", counter.number()),
+        Ok(None) => Ok(()),
+        Err(refusal) => write!(told, "{refusal:?}"),
     }
 }
 
-fn are_subscribes(sent: &[OutgoingSubscribe], wanted: &[(Eventgroup, u8)]) -> bool {
-    if sent.len() != wanted.len() {
-        return false;
-    }
-    for (subscribe, (eventgroup, number)) in sent.iter().zip(wanted) {
-        if subscribe.eventgroup != *eventgroup || Some(subscribe.counter) != counter(*number) {
-            return false;
-        }
-    }
-    true
-}
-
-/// Whether these eventgroups are answered, in this order.
-fn are_groups(answer: Result<Vec<Eventgroup>, AllocError>, wanted: &[Eventgroup]) -> bool {
-    match answer {
-        Ok(eventgroups) => eventgroups.as_slice() == wanted,
-        Err(_) => false,
-    }
-}
-
-/// Whether a wish of the first eventgroup begins with this counter, or keeps it.
-fn is_wished(subscriptions: &mut Subscriptions, counter: u8) -> bool {
-    wants(
-        subscriptions,
-        Moment::start(),
-        GROUP,
-        Some(1),
-        Some(counter),
-    ) == Some(true)
-}
-
-/// Whether that is taken back, and this stood.
-fn is_taken_back(
+/// Takes a wish back, and writes down what stood: the host, the counter and the deadline.
+fn take_back(
     subscriptions: &mut Subscriptions,
-    stood: Option<(u8, u8, Option<Deadline>)>,
-) -> bool {
-    unwants(subscriptions, Moment::start(), GROUP, stood) == Some(true)
-}
-
-/// Whether a wish begins with this counter, keeps it, and ends once.
-fn takes_turn(subscriptions: &mut Subscriptions, counter: u8) -> bool {
-    is_wished(subscriptions, counter)
-        && is_wished(subscriptions, counter)
-        && is_taken_back(subscriptions, Some((1, counter, None)))
-        && is_taken_back(subscriptions, None)
-}
-
-fn takes_turns(subscriptions: &mut Subscriptions) -> bool {
-    for turn in 0..17 {
-        if !takes_turn(subscriptions, turn % 16) {
-            return false;
+    group: Eventgroup,
+    now: Moment,
+    told: &mut Told,
+) -> fmt::Result {
+    match subscriptions.unwant(group, now) {
+        Some(stood) => {
+            let counter = stood.counter.number();
+            write!(told, "{} {counter} {:?}", stood.peer, stood.until)
         }
+        None => Ok(()),
     }
-    true
 }
 
-/// Tables by their names.
-const TABLES: &[(&str, &[At])] = &[
-    ("OTHERS", OTHERS),
-    ("LATEST", LATEST),
-    ("OFFERED", OFFERED),
-    ("ENDING", ENDING),
-    ("TAKEN_BACK", TAKEN_BACK),
-];
+/// Writes down the eventgroups of Subscribes, and their counters.
+fn tell_sent(told: &mut Told, sent: &Result<Vec<OutgoingSubscribe>, AllocError>) -> fmt::Result {
+    match sent {
+        Ok(sent) => {
+            for (place, subscribe) in sent.iter().enumerate() {
+                let space = if place == 0 { "" } else { " " };
+                let group = subscribe.eventgroup;
+                let counter = subscribe.counter.number();
+                write!(told, "{space}{}/{}:{counter}", group.instance.instance, group.id)?;
+            }
+            Ok(())
+        }
+        Err(refusal) => write!(told, "{refusal:?}"),
+    }
+}
+
+/// So many wishes, each stated twice and taken back twice. Only the first of both has an effect.
+fn take_turns(
+    subscriptions: &mut Subscriptions,
+    turns: u64,
+    now: Moment,
+    told: &mut Told,
+) -> fmt::Result {
+    let group = Eventgroup { instance: instance(1), id: 1 };
+    for turn in 0..turns {
+        let space = if turn == 0 { "" } else { " " };
+        let first = subscriptions.want(group, host(1), now);
+        if first.is_err() {
+            return tell_counter(told, &first);
+        }
+        let second = subscriptions.want(group, host(1), now);
+        let stood = subscriptions.unwant(group, now).is_some();
+        if first != second || !stood || subscriptions.unwant(group, now).is_some() {
+            return Err(fmt::Error);
+        }
+        write!(told, "{space}")?;
+        tell_counter(told, &first)?;
+    }
+    Ok(())
+}
 
 #[test]
 fn subscriptions_of_a_client(rt: HostRuntime) {
-    let mut subscriptions = Subscriptions::new(rt.alloc());
-    assert!(rt; takes_turns(&mut subscriptions));
-    assert!(rt; first_wrong_step(rt.alloc(), &mut subscriptions, ANEW).is_none());
-    for (name, rows) in TABLES {
-        end_at(&rt, name, first_wrong(rt.alloc(), rows));
-    }
+    let tables = [ANEW, OTHERS, LATEST, OFFERED, ENDING, TAKEN_BACK, SEVEN];
+    try_tables::<Subscriptions>(&rt, &tables);
 }

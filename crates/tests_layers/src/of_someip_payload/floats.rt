@@ -1,242 +1,83 @@
-//! The rows of floats: their bytes and texts, in parts of all kinds, and where they are refused.
-use super::{Faulty, Read, Refused, is_put};
-use crate::rows::{Row, check, is_printed};
-use someip_payload::{PayloadError, Shape, Value, check_shape, encode};
-use std::alloc::{AllocError, Global};
-use std::test::Fail;
+//! Floats: their bytes and texts, in parts of all kinds, and where they are refused.
 
 /// Both ways, in either order of bytes, and in each kind of part.
-const READ: &[Read] = &[
-    Read("f32", &[0x41, 0xa4, 0, 0], "20.5", 4, true),
-    Read("f32", &[0, 0, 0, 1], "1e-45", 4, true),
-    Read("f32le", &[0, 0, 0xa4, 0x41], "20.5", 4, true),
-    Read(
-        "f64",
-        &[0x3f, 0xb9, 0x99, 0x99, 0x99, 0x99, 0x99, 0x9a],
-        "0.1",
-        8,
-        true,
-    ),
-    Read(
-        "f64le",
-        &[0x9a, 0x99, 0x99, 0x99, 0x99, 0x99, 0xb9, 0x3f],
-        "0.1",
-        8,
-        true,
-    ),
-    Read("f64", &[0x80, 0, 0, 0, 0, 0, 0, 0], "-0.0", 8, true),
-    Read("f32", &[0x80, 0, 0, 0], "-0.0", 4, true),
-    Read("f32", &[0; 4], "0.0", 4, true),
-    Read("f32", &[0x7f, 0x80, 0, 0], "inf", 4, true),
-    Read("f32", &[0xff, 0x80, 0, 0], "-inf", 4, true),
-    Read("f64", &[0x7f, 0xf0, 0, 0, 0, 0, 0, 0], "inf", 8, true),
-    Read("f64le", &[0, 0, 0, 0, 0, 0, 0xf0, 0xff], "-inf", 8, true),
-    // A float takes four bytes or eight, whatever comes after it.
-    Read("f32", &[0x3f, 0x80, 0, 0, 9], "1.0", 4, true),
-    Read(
-        "struct(speed:f32,gear:u8{0=P,3=D})",
-        &[0x41, 0xa4, 0, 0, 3],
-        "(speed=20.5,gear=D)",
-        5,
-        true,
-    ),
-    Read(
-        "struct(speed:f32,gear:u8{0=P,3=D})",
-        &[0x41, 0xa4, 0, 0, 4],
-        "(speed=20.5,gear=4)",
-        5,
-        true,
-    ),
-    Read(
-        "array/8<3,f32>",
-        &[8, 0x41, 0xa4, 0, 0, 0xbf, 0xc0, 0, 0],
-        "[20.5,-1.5]",
-        9,
-        true,
-    ),
-    Read("array/8<3,f32>", &[0], "[]", 1, true),
-    Read(
-        "fixed<2,f32le>",
-        &[0, 0, 0xa4, 0x41, 0, 0, 0xc0, 0xbf],
-        "[20.5,-1.5]",
-        8,
-        true,
-    ),
-    Read(
-        "union/8/8(1:u8,2:f64)",
-        &[8, 2, 0x3f, 0xf0, 0, 0, 0, 0, 0, 0],
-        "2:1.0",
-        10,
-        true,
-    ),
-    Read(
-        "tagged/8(1:f32)",
-        &[6, 0x20, 1, 0x41, 0xa4, 0, 0],
-        "{20.5}",
-        7,
-        true,
-    ),
-    Read(
-        "tagged/8(heat:1:f64le,2?:f32le,3?:f32)",
-        &[
-            16, 0x30, 1, 0, 0, 0, 0, 0, 0, 0xf0, 0x3f, 0x20, 2, 0, 0, 0xa4, 0x41,
-        ],
-        "{heat=1.0,20.5,-}",
-        17,
-        true,
-    ),
-];
+pub(super) const READ: &str = r#"
+read f32 41a40000 -> 4 20.5 same
+read f32 00000001 -> 4 1e-45 same
+read f32le 0000a441 -> 4 20.5 same
+read f64 3fb999999999999a -> 8 0.1 same
+read f64le 9a9999999999b93f -> 8 0.1 same
+read f64 8000000000000000 -> 8 -0.0 same
+read f32 80000000 -> 4 -0.0 same
+read f32 00000000 -> 4 0.0 same
+read f32 7f800000 -> 4 inf same
+read f32 ff800000 -> 4 -inf same
+read f64 7ff0000000000000 -> 8 inf same
+read f64le 000000000000f0ff -> 8 -inf same
+# A float takes four bytes or eight, whatever comes after it.
+read f32 3f80000009 -> 4 1.0 same
+read struct(speed:f32,gear:u8{0=P,3=D}) 41a4000003 -> 5 (speed=20.5,gear=D) same
+read struct(speed:f32,gear:u8{0=P,3=D}) 41a4000004 -> 5 (speed=20.5,gear=4) same
+read array/8<3,f32> 0841a40000bfc00000 -> 9 [20.5,-1.5] same
+read array/8<3,f32> 00 -> 1 [] same
+read fixed<2,f32le> 0000a4410000c0bf -> 8 [20.5,-1.5] same
+read union/8/8(1:u8,2:f64) 08023ff0000000000000 -> 10 2:1.0 same
+read tagged/8(1:f32) 06200141a40000 -> 7 {20.5} same
+read tagged/8(heat:1:f64le,2?:f32le,3?:f32) 103001000000000000f03f20020000a441 -> 17 {heat=1.0,20.5,-} same"#;
 
 /// The bits of NaNs come through both ways: quiet and signalling ones, and of either sign.
-const NANS: &[Read] = &[
-    Read("f32", &[0x7f, 0xc0, 0, 1], "nan(7fc00001)", 4, true),
-    Read("f32", &[0x7f, 0x80, 0, 1], "nan(7f800001)", 4, true),
-    Read("f32", &[0xff, 0xc0, 0, 0], "nan(ffc00000)", 4, true),
-    Read("f32le", &[0xff; 4], "nan(ffffffff)", 4, true),
-    Read("f32le", &[1, 0, 0x80, 0x7f], "nan(7f800001)", 4, true),
-    Read(
-        "f64",
-        &[0x7f, 0xf0, 0, 0, 0, 0, 0, 1],
-        "nan(7ff0000000000001)",
-        8,
-        true,
-    ),
-    Read(
-        "f64le",
-        &[0x0d, 0, 0, 0, 0, 0, 0xf8, 0xff],
-        "nan(fff800000000000d)",
-        8,
-        true,
-    ),
-    Read(
-        "struct(f32,f32)",
-        &[0x7f, 0x80, 0, 1, 0x7f, 0xc0, 0, 1],
-        "(nan(7f800001),nan(7fc00001))",
-        8,
-        true,
-    ),
-];
+pub(super) const NANS: &str = r#"
+read f32 7fc00001 -> 4 nan(7fc00001) same
+read f32 7f800001 -> 4 nan(7f800001) same
+read f32 ffc00000 -> 4 nan(ffc00000) same
+read f32le ffffffff -> 4 nan(ffffffff) same
+read f32le 0100807f -> 4 nan(7f800001) same
+read f64 7ff0000000000001 -> 8 nan(7ff0000000000001) same
+read f64le 0d0000000000f8ff -> 8 nan(fff800000000000d) same
+read struct(f32,f32) 7f8000017fc00001 -> 8 (nan(7f800001),nan(7fc00001)) same"#;
 
-const FAULTY: &[Faulty] = &[
-    Faulty("f32", &[0x41, 0xa4, 0], PayloadError::Truncated(0)),
-    Faulty("f64le", &[0; 7], PayloadError::Truncated(0)),
-    Faulty(
-        "struct/8(u8,f32)",
-        &[4, 1, 0, 0, 0],
-        PayloadError::LengthMismatch(2),
-    ),
-    Faulty(
-        "array/8<2,f32>",
-        &[5, 0, 0, 0, 0, 0],
-        PayloadError::LengthMismatch(5),
-    ),
-    // An item with 64 bits is none of `f32`, and one with 32 bits none of `f64`.
-    Faulty(
-        "tagged/8(1:f32)",
-        &[10, 0x30, 1, 0, 0, 0, 0, 0, 0, 0, 0],
-        PayloadError::WrongWireType(1),
-    ),
-    Faulty(
-        "tagged/8(1:f64le)",
-        &[6, 0x20, 1, 0, 0, 0, 0],
-        PayloadError::WrongWireType(1),
-    ),
-];
+/// Bytes that are none of the shape.
+pub(super) const FAULTY: &str = r#"
+read f32 41a400 -> Truncated(0)
+read f64le 00000000000000 -> Truncated(0)
+read struct/8(u8,f32) 0401000000 -> LengthMismatch(2)
+read array/8<2,f32> 050000000000 -> LengthMismatch(5)
+# An item with 64 bits is none of `f32`, and one with 32 bits none of `f64`.
+read tagged/8(1:f32) 0a30010000000000000000 -> WrongWireType(1)
+read tagged/8(1:f64le) 06200100000000 -> WrongWireType(1)"#;
 
 /// A value of the other precision, or a number, is none of the shape.
-const REFUSED: &[Refused] = &[
-    Refused("f32", "f64", &[0; 8], PayloadError::NotOfShape(0)),
-    Refused("f64", "f32", &[0; 4], PayloadError::NotOfShape(0)),
-    Refused("f32le", "u32", &[0; 4], PayloadError::NotOfShape(0)),
-    Refused("u32", "f32", &[0; 4], PayloadError::NotOfShape(0)),
-    Refused("i64", "f64", &[0; 8], PayloadError::NotOfShape(0)),
-    Refused(
-        "struct(u8,f32)",
-        "struct(u8,f64)",
-        &[0; 9],
-        PayloadError::NotOfShape(0),
-    ),
-];
+pub(super) const REFUSED: &str = r#"
+refuse f32 f64 0000000000000000 -> NotOfShape(0)
+refuse f64 f32 00000000 -> NotOfShape(0)
+refuse f32le u32 00000000 -> NotOfShape(0)
+refuse u32 f32 00000000 -> NotOfShape(0)
+refuse i64 f64 0000000000000000 -> NotOfShape(0)
+refuse struct(u8,f32) struct(u8,f64) 000000000000000000 -> NotOfShape(0)"#;
 
 /// The bits of a float, and the shortest decimal that is read as it.
-struct Single(u32, &'static str);
-
-impl Row for Single {
-    fn is_right(&self, alloc: Global) -> Option<bool> {
-        is_shortest(alloc, &Shape::F32, &Value::F32(self.0), self.1)
-    }
-}
+pub(super) const SINGLES: &str = r#"
+plain f32 3dcccccd -> 0.1
+plain f32 3eaaaaab -> 0.33333334
+plain f32 3f800000 -> 1.0
+plain f32 bfc00000 -> -1.5
+plain f32 4b800000 -> 16777216.0
+plain f32 7f7fffff -> 3.4028235e38
+plain f32 ff7fffff -> -3.4028235e38
+plain f32 00800000 -> 1.1754944e-38
+plain f32 00000001 -> 1e-45
+plain f32 33d6bf95 -> 1e-7"#;
 
 /// The same of a float in 64 bits.
-struct Double(u64, &'static str);
-
-impl Row for Double {
-    fn is_right(&self, alloc: Global) -> Option<bool> {
-        is_shortest(alloc, &Shape::F64, &Value::F64(self.0), self.1)
-    }
-}
-
-/// Whether this text is put of the value and printed of it, and it has at most 25 bytes.
-fn is_shortest(alloc: Global, shape: &Shape, value: &Value, text: &str) -> Option<bool> {
-    let is_told = is_put(alloc, shape, value, text)? && is_printed(alloc, value, text)?;
-    Some(is_told && text.len() <= 25)
-}
-
-const SINGLES: &[Single] = &[
-    Single(0x3dcc_cccd, "0.1"),
-    Single(0x3eaa_aaab, "0.33333334"),
-    Single(0x3f80_0000, "1.0"),
-    Single(0xbfc0_0000, "-1.5"),
-    Single(0x4b80_0000, "16777216.0"),
-    Single(0x7f7f_ffff, "3.4028235e38"),
-    Single(0xff7f_ffff, "-3.4028235e38"),
-    Single(0x0080_0000, "1.1754944e-38"),
-    Single(0x0000_0001, "1e-45"),
-    Single(0x33d6_bf95, "1e-7"),
-];
-
-const DOUBLES: &[Double] = &[
-    Double(0x3fd5_5555_5555_5555, "0.3333333333333333"),
-    Double(0x3fd3_3333_3333_3334, "0.30000000000000004"),
-    Double(0x4009_21fb_5444_2d18, "3.141592653589793"),
-    Double(0x4340_0000_0000_0000, "9007199254740992.0"),
-    Double(0x7fef_ffff_ffff_ffff, "1.7976931348623157e308"),
-    Double(0xffef_ffff_ffff_ffff, "-1.7976931348623157e308"),
-    Double(0x0010_0000_0000_0000, "2.2250738585072014e-308"),
-    Double(0x0000_0000_0000_0001, "5e-324"),
-    Double(0x3eb0_c6f7_a0b5_ed8d, "1e-6"),
-    // The float of 32 bits that is nearest to 0.1, in 64 bits.
-    Double(0x3fb9_9999_a000_0000, "0.10000000149011612"),
-];
-
-#[test]
-fn floats(rt: HostRuntime) {
-    check(&rt, rt.alloc(), "READ", READ);
-    check(&rt, rt.alloc(), "NANS", NANS);
-    check(&rt, rt.alloc(), "FAULTY", FAULTY);
-    check(&rt, rt.alloc(), "REFUSED", REFUSED);
-}
-
-#[test]
-fn shortest_texts(rt: HostRuntime) {
-    check(&rt, rt.alloc(), "SINGLES", SINGLES);
-    check(&rt, rt.alloc(), "DOUBLES", DOUBLES);
-}
-
-/// A float with a name for its value 0, which no text of a shape says.
-fn named_float(alloc: Global) -> Result<Shape, AllocError> {
-    let mut labels = Vec::new(alloc);
-    labels.push((0, String::from_str(alloc, "A")?))?;
-    Ok(Shape::Enum(Box::new(alloc, Shape::F32)?, labels))
-}
-
-#[test]
-fn values_of_floats_have_no_names(rt: HostRuntime) -> Result<(), Fail> {
-    let alloc = rt.alloc();
-    let shape = named_float(alloc)?;
-    assert_eq!(rt; check_shape(alloc, &shape), Err(PayloadError::BadShape(0)));
-    let mut out = Vec::new(alloc);
-    let refused = encode(&shape, &Value::F32(0), &mut out);
-    assert_eq!(rt; refused, Err(PayloadError::BadShape(0)));
-    Ok(())
-}
+pub(super) const DOUBLES: &str = r#"
+plain f64 3fd5555555555555 -> 0.3333333333333333
+plain f64 3fd3333333333334 -> 0.30000000000000004
+plain f64 400921fb54442d18 -> 3.141592653589793
+plain f64 4340000000000000 -> 9007199254740992.0
+plain f64 7fefffffffffffff -> 1.7976931348623157e308
+plain f64 ffefffffffffffff -> -1.7976931348623157e308
+plain f64 0010000000000000 -> 2.2250738585072014e-308
+plain f64 0000000000000001 -> 5e-324
+plain f64 3eb0c6f7a0b5ed8d -> 1e-6
+# The float of 32 bits that is nearest to 0.1, in 64 bits.
+plain f64 3fb99999a0000000 -> 0.10000000149011612"#;

@@ -1,0 +1,4 @@
+use Rattle.tests_layers.proofs.of_someip_tp.store.Kept.expire.Goals as goal
+
+pub invariant_of-self : goal.invariant_of-self
+invariant_of-self g c = record { timely = c.expire.ensures.moments c.args.self.now.now c.args.self.now.timely }

@@ -1,3 +1,0 @@
-//! The audit of recordings: all books together.
-
-mod audits;

@@ -1,4 +1,0 @@
-//! Maps with deadlines, and maps with moments.
-
-mod deadlines;
-mod timed;
