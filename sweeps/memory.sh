@@ -149,6 +149,12 @@ sweep_program() {
 
 sweep_memory() {
     begin_part memory
+    for built in "$tests_program" "$here/crates/someip_c/out/libsomeip_c.a"; do
+        if [ ! -f "$built" ]; then
+            echo "$part: nothing at $built: rt ci and crates/someip_c/make-archive build it" >&2
+            return 1
+        fi
+    done
     growths=0
     judged=0
     cc -O1 -shared -fPIC -o "$scratch/refused_growths.so" "$here/sweeps/refused_growths.c" || return 1

@@ -5,7 +5,7 @@
 //! Tests stand over the crates that they try, since a crate is proved again with its tests. The module
 //! `of_CRATE` has the tests of that crate. What is tried stands in tables, each a text of a line for each act, which costs
 //! the prover nothing: `acts` says how a line is read, and `judging` what its answer is held against. The head of a module says
-//! what its acts are. Each test is also a sweep of `sweeps/memory.sh`, which refuses it one growth of memory after the other.
+//! what its acts are. Most tests are swept by `sweeps/memory.sh`, which refuses them one growth of memory after the other.
 #![tactic(auto)]
 
 #[cfg(test)]

@@ -105,7 +105,10 @@ impl Subject for Sessions {
 impl Sessions {
     fn hear(&mut self, channel: Channel, act: &Act<'_>, told: &mut Told) -> fmt::Result {
         let peer = Ipv4Addr::new(192, 168, 0, act.byte(0));
-        tell(told, &self.peers.saw(peer, channel, act.short(1), act.is(2)))
+        tell(
+            told,
+            &self.peers.saw(peer, channel, act.short(1), act.is(2)),
+        )
     }
 
     fn skip(&mut self, count: u32) {

@@ -10,8 +10,8 @@
 use crate::acts::{Act, Subject, Told, tell, tell_bytes, tell_refusal};
 use crate::judging::try_tables;
 use someip_payload::{
-    Member, NamedShapes, Shape, Told as ToldValue, Value, Width, check_shape, decode,
-    depth_of, encode, next_reference, read_shape, read_shape_in, read_value, shapes_in,
+    Member, NamedShapes, Shape, Told as ToldValue, Value, Width, check_shape, decode, depth_of,
+    encode, next_reference, read_shape, read_shape_in, read_value, shapes_in,
 };
 use std::alloc::{AllocError, Global};
 use std::fmt;
@@ -33,11 +33,11 @@ read struct/16(u8,bool,i16,utf8/8,utf16/8,array/8<4,u16>,fixed<3,u8>,union(1:u8,
 read array/8<2,array/8<2,u8>> 050201020103 -> 6 [[1,2],[3]] same
 read tagged/8(1:u8,2?:array/8<2,u8>) 0b1009ffff50020108000107 -> 12 {7,[8]} other
 read tagged/8(1:u8,2?:array/8<2,u8>) 0450020108 -> MissingMember(0)
-shape struct(u8,array/8<2,utf8/8> -> BadShape(26)
+shape struct(u8,array/8<2,utf8/8> -> BadShape(27)
 shape union/8/16(1:u8,2:utf8fix<8>) -> SizedUnion(W8, W16, [(1, U8), (2, FixedText(Utf8, 8))])
 nested 3 u8{0=PARK,3=DRIVE}
 say struct(a:u8,b:array/8<2,utf8/8>) (a=1,b=[\"x\"]) -> 010605efbbbf7800
-say struct(a:u8,b:array/8<2,utf8/8>) (a=1,b=[\"x\"]] -> BadValue(13)
+say struct(a:u8,b:array/8<2,utf8/8>) (a=1,b=[\"x\"]] -> BadValue(12)
 name speed u16
 name place struct(x:f32,y:f32)
 same array<2,@place> array<2,struct(x:f32,y:f32)> -> true
@@ -120,13 +120,7 @@ fn bytes_of(alloc: Global, digits: &str) -> Option<Vec<u8>> {
 }
 
 /// Reads a value, and tells it, with names and whether it is written so, or without.
-fn read(
-    alloc: Global,
-    shape: &str,
-    digits: &str,
-    is_plain: bool,
-    told: &mut Told,
-) -> fmt::Result {
+fn read(alloc: Global, shape: &str, digits: &str, is_plain: bool, told: &mut Told) -> fmt::Result {
     let Some(bytes) = bytes_of(alloc, digits) else {
         return write!(told, "OutOfMemory");
     };
@@ -160,7 +154,11 @@ fn tell_value(
     let mut out = Vec::new(alloc);
     match encode(shape, value, &mut out) {
         Ok(()) => {
-            let is_same = if out.as_slice() == bytes { "same" } else { "other" };
+            let is_same = if out.as_slice() == bytes {
+                "same"
+            } else {
+                "other"
+            };
             write!(told, "{} {text} {is_same}", bytes.len())
         }
         Err(refusal) => write!(told, "{refusal:?}"),

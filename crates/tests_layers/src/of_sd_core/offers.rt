@@ -118,7 +118,10 @@ impl Subject for Offering {
         match act.verb {
             "once" => self.phases = NO_REPETITIONS,
             "add" => {
-                let version = Version { major: act.byte(1), minor: act.word(2) };
+                let version = Version {
+                    major: act.byte(1),
+                    minor: act.word(2),
+                };
                 return tell_refusal(told, &self.offers.add(number, version));
             }
             "start" => self.offers.start(act.word(0)),

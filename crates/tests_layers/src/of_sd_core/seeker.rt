@@ -179,7 +179,9 @@ impl Subject for Seeking {
                 None => return Err(fmt::Error),
             },
             "stop" => {
-                let is_ended = self.seeker.stop(number, act.byte(1), address(act.byte(2)), now);
+                let is_ended = self
+                    .seeker
+                    .stop(number, act.byte(1), address(act.byte(2)), now);
                 write!(told, "{is_ended}")?;
             }
             "reboot" => {

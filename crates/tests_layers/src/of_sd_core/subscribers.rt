@@ -132,7 +132,10 @@ impl Subject for Subscribers {
             "reboot" => self.peer_reboot(address(act.byte(0))),
             "tick" => Subscribers::tick(self, now),
             "live" => {
-                return tell(told, &self.live(instance(1), &[act.short(0), act.short(1)], now));
+                return tell(
+                    told,
+                    &self.live(instance(1), &[act.short(0), act.short(1)], now),
+                );
             }
             "is-live" => {
                 let endpoint = endpoint(act.byte(2), act.short(3));

@@ -206,7 +206,11 @@ fn tell_sent(told: &mut Told, sent: &Result<Vec<OutgoingSubscribe>, AllocError>)
                 let space = if place == 0 { "" } else { " " };
                 let group = subscribe.eventgroup;
                 let counter = subscribe.counter.number();
-                write!(told, "{space}{}/{}:{counter}", group.instance.instance, group.id)?;
+                write!(
+                    told,
+                    "{space}{}/{}:{counter}",
+                    group.instance.instance, group.id
+                )?;
             }
             Ok(())
         }
@@ -221,7 +225,10 @@ fn take_turns(
     now: Moment,
     told: &mut Told,
 ) -> fmt::Result {
-    let group = Eventgroup { instance: instance(1), id: 1 };
+    let group = Eventgroup {
+        instance: instance(1),
+        id: 1,
+    };
     for turn in 0..turns {
         let space = if turn == 0 { "" } else { " " };
         let first = subscriptions.want(group, host(1), now);

@@ -120,7 +120,10 @@ fn rules() -> ClientRules {
 fn asked(kind: CallKind, method: u16) -> Call {
     Call {
         kind,
-        message: MessageId { service: 0x1111, method },
+        message: MessageId {
+            service: 0x1111,
+            method,
+        },
         interface: 1,
     }
 }
@@ -132,16 +135,29 @@ fn call(
     now: Moment,
     told: &mut Told,
 ) -> fmt::Result {
-    let offer = if act.is(2) { Some(server_endpoint()) } else { None };
+    let offer = if act.is(2) {
+        Some(server_endpoint())
+    } else {
+        None
+    };
     let asked = asked(kind, act.short(0));
-    tell_sent(told, &core.call(&rules(), asked, payload(act.short(1)), offer, now))
+    tell_sent(
+        told,
+        &core.call(&rules(), asked, payload(act.short(1)), offer, now),
+    )
 }
 
 /// Calls so often, and tells the last session, or the first refusal.
 fn call_many(core: &mut ClientCore, kind: CallKind, count: u32, told: &mut Told) -> fmt::Result {
     let mut session = 0;
     for _ in 0..count {
-        match core.call(&rules(), asked(kind, METHOD), &[], Some(server_endpoint()), Moment::start()) {
+        match core.call(
+            &rules(),
+            asked(kind, METHOD),
+            &[],
+            Some(server_endpoint()),
+            Moment::start(),
+        ) {
             Ok(sent) => session = sent.message.header.session,
             Err(refusal) => return write!(told, "{refusal:?}"),
         }
@@ -193,6 +209,11 @@ fn tell_calls(told: &mut Told, ended: &Result<BTreeSet<CallKey>, AllocError>) ->
 
 #[test]
 fn calls_and_their_answers(rt: HostRuntime) {
-    let tables = [ONE_CALL, DROPPED, OTHER_CODE, WAITING, ROUND, CROWDED, SEVEN];
+    let tables = [ONE_CALL, DROPPED, OTHER_CODE, WAITING, ROUND, SEVEN];
     try_tables::<ClientCore>(&rt, &tables);
+}
+
+#[test]
+fn crowded_clients(rt: HostRuntime) {
+    try_tables::<ClientCore>(&rt, &[CROWDED]);
 }

@@ -127,7 +127,9 @@ impl Subject for Server {
             "error" => self.answer(Reply::Error(ReturnCode(act.byte(1))), act, told),
             "open" => write!(told, "{}", self.core.open_requests()),
             "may" => {
-                let may = self.service.may_publish(is_up, 1400, event, usize::from(size));
+                let may = self
+                    .service
+                    .may_publish(is_up, 1400, event, usize::from(size));
                 tell_refusal(told, &may)
             }
             "publish" => self.publish(is_up, event, payload(size), told),
@@ -153,7 +155,10 @@ impl Server {
             kind,
             ..ANSWER
         };
-        match self.core.on_request(&self.service, act.is(4), client_endpoint(), &header) {
+        match self
+            .core
+            .on_request(&self.service, act.is(4), client_endpoint(), &header)
+        {
             Ok(Arrived::Request(token)) => write!(told, "token {token}"),
             Ok(Arrived::Oneway) => write!(told, "oneway"),
             Ok(Arrived::Refused(error)) => tell_sent(told, &Ok(error)),
@@ -164,9 +169,16 @@ impl Server {
 
     /// So many requests come, and each is handed up.
     fn hear_many(&mut self, count: u32, told: &mut Told) -> fmt::Result {
-        let header = Header { method: 0x0421, kind: MessageType::Request, ..ANSWER };
+        let header = Header {
+            method: 0x0421,
+            kind: MessageType::Request,
+            ..ANSWER
+        };
         for _ in 0..count {
-            match self.core.on_request(&self.service, true, client_endpoint(), &header) {
+            match self
+                .core
+                .on_request(&self.service, true, client_endpoint(), &header)
+            {
                 Ok(Arrived::Request(_)) => {}
                 Ok(_) => return Err(fmt::Error),
                 Err(refusal) => return write!(told, "{refusal:?}"),
@@ -180,14 +192,11 @@ impl Server {
         tell_sent(told, &self.core.answer(act.long(0), reply, payload, 1400))
     }
 
-    fn publish(
-        &mut self,
-        is_up: bool,
-        event: u16,
-        payload: &[u8],
-        told: &mut Told,
-    ) -> fmt::Result {
-        match self.core.publish(&self.service, is_up, 1400, event, payload) {
+    fn publish(&mut self, is_up: bool, event: u16, payload: &[u8], told: &mut Told) -> fmt::Result {
+        match self
+            .core
+            .publish(&self.service, is_up, 1400, event, payload)
+        {
             Ok(published) => {
                 write!(told, "{} ", published.from)?;
                 tell_header(told, &published.message)
@@ -255,7 +264,12 @@ fn service(alloc: Global) -> Result<ServiceRules, AllocError> {
 #[test]
 fn requests_and_events(rt: HostRuntime) {
     let tables = [
-        ANSWERED, UNANSWERED, FAULTY, DROPPED, CROWDED, COUNTED, REFUSED, SEVEN,
+        ANSWERED, UNANSWERED, FAULTY, DROPPED, COUNTED, REFUSED, SEVEN,
     ];
     try_tables::<Server>(&rt, &tables);
+}
+
+#[test]
+fn crowded_servers(rt: HostRuntime) {
+    try_tables::<Server>(&rt, &[CROWDED]);
 }

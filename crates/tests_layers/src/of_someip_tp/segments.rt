@@ -91,13 +91,21 @@ impl Segmented {
         if payload.len() > 100_000 {
             return Err(fmt::Error);
         }
-        for segment in Segments::new(&Message { header: HEADER, payload }) {
+        for segment in Segments::new(&Message {
+            header: HEADER,
+            payload,
+        }) {
             let space = if segment.offset == 0 { "" } else { " " };
             self.out.clear();
             if let Err(refusal) = append_segment(&segment, &mut self.out) {
                 return write!(told, "{refusal:?}");
             }
-            write!(told, "{space}{:08x}:{}:", segment.tp_header(), segment.slice.len())?;
+            write!(
+                told,
+                "{space}{:08x}:{}:",
+                segment.tp_header(),
+                segment.slice.len()
+            )?;
             tell_length(told, &self.out)?;
         }
         Ok(())
@@ -108,7 +116,12 @@ impl Segmented {
         if payload.len() > 100_000 {
             return Err(fmt::Error);
         }
-        for (place, piece) in Sent::new(&Message { header: HEADER, payload }).enumerate() {
+        for (place, piece) in Sent::new(&Message {
+            header: HEADER,
+            payload,
+        })
+        .enumerate()
+        {
             let space = if place == 0 { "" } else { " " };
             self.out.clear();
             if let Err(refusal) = append_piece(&piece, &mut self.out) {
@@ -120,7 +133,12 @@ impl Segmented {
     }
 
     fn tell_segment(&mut self, told: &mut Told) -> fmt::Result {
-        let segment = Segment { header: HEADER, offset: 1392, more: true, slice: &[0x2a] };
+        let segment = Segment {
+            header: HEADER,
+            offset: 1392,
+            more: true,
+            slice: &[0x2a],
+        };
         match append_segment(&segment, &mut self.out) {
             Ok(()) => tell_bytes(told, &self.out),
             Err(refusal) => write!(told, "{refusal:?}"),
@@ -132,7 +150,13 @@ impl Segmented {
         if payload.len() > 100_000 {
             return Err(fmt::Error);
         }
-        match append_message(&Message { header: HEADER, payload }, &mut self.out) {
+        match append_message(
+            &Message {
+                header: HEADER,
+                payload,
+            },
+            &mut self.out,
+        ) {
             Ok(()) => tell_bytes(told, &self.out),
             Err(refusal) => write!(told, "{refusal:?}"),
         }

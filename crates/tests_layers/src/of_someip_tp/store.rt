@@ -118,15 +118,19 @@ impl<R: Reassembly> Subject for Store<R> {
 impl<R: Reassembly> Store<R> {
     /// The key of a number.
     fn key(&self, number: u16) -> ReassemblyKey {
-        if number == 2 { self.second } else { key(number) }
+        if number == 2 {
+            self.second
+        } else {
+            key(number)
+        }
     }
 
     fn make_anew(&mut self, act: &Act<'_>, told: &mut Told) -> fmt::Result {
-        self.second = key(2);
-        self.bytes.clear();
         match Kept::make(self.alloc, usize::from(act.byte(0)), act.word(1) as usize) {
             Ok(kept) => {
                 self.kept = Some(kept);
+                self.second = key(2);
+                self.bytes.clear();
                 Ok(())
             }
             Err(refusal) => write!(told, "{refusal:?}"),
