@@ -122,10 +122,6 @@ module _ (first second : SetupNode) (named : AreNamed first second) where
         → judged_from nodes n book (s ∷ steps) lines ≡ after n steps lines next
     of_b life next is lives unbroken does = at_place 1 b second life is at_b refl lives ∙ goes 1 second life next unbroken does
 
-    pub breaks_of_a : (life : LifeKept) → node_of s ≡ a → slice_get book.lives 0 ≡ Some life
-        → breaks_at first.config.common.reassembly_timeout_ms book life s ≡ true → judged_from nodes n book (s ∷ steps) lines ≡ Broken (n + 1)
-    breaks_of_a life is lives breaks = at_place 0 a first life is at_a refl lives ∙ ends 0 first life breaks
-
     pub breaks_of_b : (life : LifeKept) → node_of s ≡ b → slice_get book.lives 1 ≡ Some life
         → breaks_at second.config.common.reassembly_timeout_ms book life s ≡ true → judged_from nodes n book (s ∷ steps) lines ≡ Broken (n + 1)
     breaks_of_b life is lives breaks = at_place 1 b second life is at_b refl lives ∙ ends 1 second life breaks

@@ -1,4 +1,4 @@
--- The verdicts on the worked runs are those of the definitions.
+-- The verdicts on the worked run are those of the definitions.
 use Rattle.std.proofs.Common.{ℕ, arith, ◌≡◌, ◌∙◌, List, [], ◌∷◌, ◌++◌, length, ap, sym}
 use Rattle.std.specs.List.{AllByRecursion}
 use Rattle.someip_world_schedule.specs.declared.step.Step.{Step}
@@ -10,7 +10,7 @@ use Rattle.someip_world_rules.specs.declared.line.Line.{Line}
 use Rattle.someip_world_rules.specs.declared.reuse.Reuse.{Reuse}
 use Rattle.someip_world_rules.proofs.FitRunLemmas.{all_given_fits, copies_fit}
 use Rattle.someip_world_verdict.specs.Judging.{judged}
-use Rattle.someip_world_verdict.specs.VerdictExamples.{IsOfTwo, IsVerdictThen, answered_twice, refused_twice, sent_twice, subscribed_twice}
+use Rattle.someip_world_verdict.specs.VerdictExamples.{IsOfTwo, IsVerdictThen}
 use Rattle.someip_world_verdict.proofs.examples.LastLines.{judged_then}
 use Rattle.someip_world_verdict.proofs.VerdictLemmas.{verdict_so}
 
@@ -25,15 +25,3 @@ verdict_is network two steps lines verdict fit is place given =
 -- the numbers of their steps fit
 pub late_fits : (number : ℕ) (node : List ℕ) → AllByRecursion FitsStep (answered_late number node)
 late_fits number node = (tt, (tt, ((omega arith, omega arith), (tt, (tt, (tt, ((omega arith, omega arith), (omega arith, (tt, tt)))))))))
-
-pub twice_fits : (number : ℕ) (node : List ℕ) → AllByRecursion FitsStep (refused_twice number node)
-twice_fits number node = (tt, (tt, ((omega arith, omega arith), (tt, (tt, (tt, (tt, ((omega arith, omega arith), (tt, tt)))))))))
-
-pub sent_fits : (number : ℕ) (node : List ℕ) → AllByRecursion FitsStep (sent_twice number node)
-sent_fits number node = (tt, (tt, ((omega arith, omega arith), (tt, (tt, ((omega arith, omega arith), (tt, tt)))))))
-
-pub mixed_fits : (more : List Step) → AllByRecursion FitsStep more → AllByRecursion FitsStep (answered_twice more)
-mixed_fits more fit = (tt, (tt, ((omega arith, omega arith), (tt, (tt, (omega arith, (omega arith, (tt, fit))))))))
-
-pub subscribed_fits : (number : ℕ) (node : List ℕ) → AllByRecursion FitsStep (subscribed_twice number node)
-subscribed_fits number node = (tt, (tt, (omega arith, (tt, (tt, (tt, (omega arith, (tt, tt))))))))
