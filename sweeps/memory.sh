@@ -25,17 +25,18 @@
 #
 # The program itself runs `show`, without a types file and with one, `recording --whole --types`, `audit`, both of these
 # over copies, fragments and several files, `payload`, `encode`, `vectors`, `run`, alone and beside a trace, `chart`,
-# `explore`, `services`, `stats` and `extract` so, and for objects `recording`, `audit` and `run`. Each refused growth, also of the command line, comes to exit status 3, `out of memory` on standard error, and a
-# beginning of the expected text on standard output. Where one growth alone is refused, the program may go on, and then
-# nothing differs: it asks a second time, or an audit looks at all that a book holds from then on, in place of an index.
-# How many growths of a call are such stands with the call, so that an error of memory that nobody tells is found. The
-# recordings of an audit are such that another growth comes after those of its indexes.
+# `explore`, `services`, `stats` and `extract` so, and for objects `recording`, `audit` and `run`. Each refused growth,
+# also of the command line, comes to exit status 3, `out of memory` on standard error, and a beginning of the expected
+# text on standard output. Where one growth alone is refused, the program may go on, and then nothing differs: it asks a
+# second time, or an audit looks at all that a book holds from then on, in place of an index. How many growths of a call
+# are such stands with the call, so that an error of memory that nobody tells is found. The recordings of an audit are
+# such that another growth comes after those of its indexes.
 #
 # The gate runs each test once with nothing refused.
 #
-# Some calls ask for memory a second time where the first is refused (a list that is collected asks for the room of all that
-# comes, and where that is refused for that of one element), and go on. So where a run does not differ although
-# a growth was refused, the next ones are refused with it, up to this many.
+# Some calls ask for memory a second time where the first is refused (a list that is collected asks for the room of all
+# that comes, and where that is refused for that of one element), and go on. So where a run does not differ although a
+# growth was refused, the next ones are refused with it, up to this many.
 most_in_a_row=6
 
 # The tests that it sweeps.

@@ -2,6 +2,7 @@
 use someip_wire::{Header, MessageType, ReturnCode};
 use std::alloc::{AllocError, Global};
 
+mod calls;
 mod rows;
 mod segments;
 mod slices;

@@ -216,7 +216,7 @@ fn slice_of(act: &Act<'_>) -> &'static [u8] {
 }
 
 /// The key of the segments of a response with this Session ID.
-fn key(session: u16) -> ReassemblyKey {
+pub(super) fn key(session: u16) -> ReassemblyKey {
     let mut header = HEADER;
     header.kind = MessageType::TpResponse;
     header.session = session;
