@@ -1,5 +1,4 @@
-//! Tests of nodes, of the node for other languages and of runs, and of the program below its
-//! `main`: what its commands do, and how it ends.
+//! Tests of nodes, of the node for other languages and of runs, and of calls below the program.
 //!
 //! Tests stand over the crates that they try, since a crate is proved again with its tests. What is tried
 //! stands in tables of plain data, and the rows of one kind are tried by one test. Commands with what they print are

@@ -1,22 +1,9 @@
 //! Calls of the crates below the program that no command line makes.
-use someipctl_cli::{LineError, command_of};
 use someipctl_io::Outcome;
 use someipctl_run::{read_setup, run_schedule};
 use someipctl_show::show::show;
 use someipctl_show::types::MessageTypes;
 use std::alloc::Global;
-
-/// Whether no word at all comes to a fault of usage that says so.
-fn is_told_without_words(alloc: Global) -> Option<bool> {
-    let words: &[&str] = &[];
-    match command_of(alloc, words) {
-        Err(LineError::Usage(error)) => {
-            let text = error.to_string(alloc).ok()?;
-            Some(text.contains("requires a subcommand but one was not provided"))
-        }
-        _ => Some(false),
-    }
-}
 
 /// An event, two requests of two services in one datagram, and an empty datagram.
 const MIXED: &[u8] = b"\
@@ -69,7 +56,6 @@ fn writes_trace(alloc: Global) -> Option<bool> {
 #[test]
 fn calls_beside_the_program(rt: HostRuntime) {
     let alloc = rt.alloc();
-    assert!(rt; is_told_without_words(alloc) == Some(true));
     assert!(rt; shows_nothing(alloc));
     assert!(rt; writes_trace(alloc) == Some(true));
 }
