@@ -5,7 +5,7 @@ use super::{HEADER, payload_of};
 use crate::acts::{Act, Subject, Told, tell, tell_bytes};
 use crate::judging::try_tables;
 use someip_tp::{
-    Segment, Segments, Sent, append_message, append_piece, append_segment, read_segment,
+    Segment, Segments, Sent, SentPiece, append_message, append_piece, append_segment, read_segment,
 };
 use someip_wire::Message;
 use std::alloc::{AllocError, Global};
@@ -87,47 +87,27 @@ impl Subject for Segmented {
 
 impl Segmented {
     fn tell_segments(&mut self, told: &mut Told) -> fmt::Result {
-        let payload = self.payload.as_slice();
-        if payload.len() > 100_000 {
-            return Err(fmt::Error);
-        }
-        for segment in Segments::new(&Message {
+        let message = Message {
             header: HEADER,
-            payload,
-        }) {
-            let space = if segment.offset == 0 { "" } else { " " };
-            self.out.clear();
-            if let Err(refusal) = append_segment(&segment, &mut self.out) {
-                return write!(told, "{refusal:?}");
+            payload: &self.payload,
+        };
+        if message.payload.len() < 100_000 {
+            for segment in Segments::new(&message) {
+                tell_part(&segment, &mut self.out, told)?;
             }
-            write!(
-                told,
-                "{space}{:08x}:{}:",
-                segment.tp_header(),
-                segment.slice.len()
-            )?;
-            tell_length(told, &self.out)?;
         }
         Ok(())
     }
 
     fn tell_sent(&mut self, told: &mut Told) -> fmt::Result {
-        let payload = self.payload.as_slice();
-        if payload.len() > 100_000 {
-            return Err(fmt::Error);
-        }
-        for (place, piece) in Sent::new(&Message {
+        let message = Message {
             header: HEADER,
-            payload,
-        })
-        .enumerate()
-        {
-            let space = if place == 0 { "" } else { " " };
-            self.out.clear();
-            if let Err(refusal) = append_piece(&piece, &mut self.out) {
-                return write!(told, "{refusal:?}");
+            payload: &self.payload,
+        };
+        if message.payload.len() < 100_000 {
+            for piece in Sent::new(&message) {
+                tell_piece(&piece, &mut self.out, told)?;
             }
-            write!(told, "{space}{}", self.out.len())?;
         }
         Ok(())
     }
@@ -160,6 +140,37 @@ impl Segmented {
             Ok(()) => tell_bytes(told, &self.out),
             Err(refusal) => write!(told, "{refusal:?}"),
         }
+    }
+}
+
+/// What stands between two answers.
+fn space(told: &Told) -> &'static str {
+    if told.bytes().is_empty() { "" } else { " " }
+}
+
+/// Writes down the TP header of a segment, the length of its slice, and its Length field.
+fn tell_part(segment: &Segment<'_>, out: &mut Vec<u8>, told: &mut Told) -> fmt::Result {
+    out.clear();
+    match append_segment(segment, out) {
+        Ok(()) => {
+            let (header, len) = (segment.tp_header(), segment.slice.len());
+            let space = space(told);
+            write!(told, "{space}{header:08x}:{len}:")?;
+            tell_length(told, out)
+        }
+        Err(refusal) => write!(told, "{refusal:?}"),
+    }
+}
+
+/// Writes down how many bytes a piece has that is sent.
+fn tell_piece(piece: &SentPiece<'_>, out: &mut Vec<u8>, told: &mut Told) -> fmt::Result {
+    out.clear();
+    match append_piece(piece, out) {
+        Ok(()) => {
+            let space = space(told);
+            write!(told, "{space}{}", out.len())
+        }
+        Err(refusal) => write!(told, "{refusal:?}"),
     }
 }
 
