@@ -78,15 +78,15 @@ impl Subject for Wire {
 }
 
 fn tell_datagram(told: &mut Told, datagram: &[u8]) -> fmt::Result {
-    for (place, item) in Messages::new(datagram).enumerate() {
-        let space = if place == 0 { "" } else { " " };
-        write!(told, "{space}")?;
+    for item in Messages::new(datagram) {
         tell_item(told, &item)?;
     }
     Ok(())
 }
 
 fn tell_item(told: &mut Told, item: &Result<Message<'_>, WireError>) -> fmt::Result {
+    let space = if told.bytes().is_empty() { "" } else { " " };
+    write!(told, "{space}")?;
     match item {
         Ok(message) => tell_message(told, message),
         Err(fault) => write!(told, "{fault}"),

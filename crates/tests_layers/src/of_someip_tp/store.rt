@@ -171,8 +171,9 @@ impl<R: Reassembly> Store<R> {
             let from = (number.saturating_mul(step) % count).saturating_mul(size);
             let end = from.saturating_add(size).min(len);
             let bytes = self.payload.get(from as usize..end as usize);
+            let offset = u32::try_from(from).unwrap_or(0);
             last = match (&mut self.kept, bytes) {
-                (Some(kept), Some(bytes)) => kept.offer(key(1), from as u32, end < len, bytes),
+                (Some(kept), Some(bytes)) => kept.offer(key(1), offset, end < len, bytes),
                 _ => None,
             };
         }
