@@ -109,7 +109,7 @@ sweep_test() {
 }
 
 # Refuses each growth of two nodes in turn.
-sweep_nodes() {
+sweep_node_library() {
     (cd "$here/crates/someip_c" && cc -O1 -Iinclude -o "$scratch/memory_node" "$here/sweeps/memory_node.c" out/libsomeip_c.a) &&
         "$scratch/memory_node" >"$scratch/out" || findings=$((findings + 1))
     grep '^memory: ' "$scratch/out"
@@ -163,7 +163,7 @@ sweep_memory() {
         sweep_test "$test" again
         sweep_test "$test" left-out
     done
-    sweep_nodes
+    sweep_node_library
     sweep_program 1 show "$examples/segments.txt"
     sweep_program 1 show --types "$examples/types.toml" "$examples/speed.txt"
     sweep_program 1 recording --whole --types "$examples/types.toml" "$examples/route.pcap"
