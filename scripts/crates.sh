@@ -107,7 +107,7 @@ free_memory() {
 # disk that the libraries of all crates take.
 proof_memory=3000
 linking_memory=5000
-build_disk=2000
+build_disk=5000
 
 # How many crates may be proved side by side: one for each processor that has memory for a proof.
 proof_jobs() {
