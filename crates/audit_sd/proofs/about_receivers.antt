@@ -4,5 +4,6 @@ pub mod SubscribedLemmas
 pub mod HistoryLemmas
 pub mod ToldLemmas
 pub mod LimitLemmas
+pub mod BeginLemmas
 pub mod FullLemmas
 pub mod NotedLemmas

@@ -39,14 +39,17 @@ use Rattle.audit_traffic.specs.segments.SegmentBooks as segments
 use Rattle.audit_traffic.specs.cycles.CycleHistories.{Step, Unsubscribed, Withdrawn, after_steps, book_after}
 use Rattle.audit_traffic.specs.cycles.CycleTables.{Cycles, without_subscribed}
 use Rattle.someip_audit.specs.AnswerTimes.{Times, cycle_ms_of}
-use Rattle.someip_audit.specs.AnyShown.{is_sd, item_len, item_shown, items_shown, payload_shown}
+use Rattle.audit_endpoints.specs.DiscoveryMessages.{is_sd}
+use Rattle.someip_audit.specs.AnyShown.{item_len, item_shown, items_shown, payload_shown}
 use Rattle.someip_audit.specs.Audits.{AuditState, Seen, after_seen, datagram_shown, each_unwatched, without_passed}
 use Rattle.someip_audit.specs.BooksHeld.{Held}
 use Rattle.someip_audit.specs.CycleSteps.{came_steps, entries_steps, entry_steps, expiry_steps, group_steps, head_steps, item_steps, items_steps, message_steps, payload_steps, piece_steps, seen_steps, segment_steps, service_steps, session_steps, shown_steps, step_if, step_at, whole_steps}
 use Rattle.someip_audit.specs.MessageShown.{call_shown, code_shown, cycle_shown, delivery, event_flow, event_shown, flow_shown, has_no_tp_header, is_event, is_of_call, judged_shown, message_shown, piece_shown, segment_at, segment_held, segment_shown, segment_told, watch_shown, whole_shown, whole_taken}
-use Rattle.someip_audit.specs.SdEntries.{named_endpoint, offer_entry, offers_by, receiver_entry, sd_message, sender, subscribe_entry, withdrawn_offer}
+use Rattle.audit_endpoints.specs.NamedEndpoints.{named_endpoint}
+use Rattle.someip_audit.specs.SdEntries.{offer_entry, offers_by, receiver_entry, sd_message, sender, subscribe_entry, withdrawn_offer}
 use Rattle.someip_audit.specs.SdShown.{Work, after_session, endpoint_shown, entries_shown, entry_shown, group_shown, head_of, head_shown, offer_noted, offer_shown, offered_shown, options_shown, server_ended, server_shown, service_shown, session_shown, stop_shown, taken_shown, unwatched_if, working}
-use Rattle.someip_audit.specs.WatchedEndpoints.{is_at_discovery, is_looked_at}
+use Rattle.audit_endpoints.specs.DiscoveryMessages.{is_at_discovery}
+use Rattle.audit_endpoints.specs.WatchedEndpoints.{is_looked_at}
 
 -- the book of events that come in cycles, of what is worked on
 abbrev cycles : Work → Cycles

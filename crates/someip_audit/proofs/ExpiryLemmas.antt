@@ -8,6 +8,7 @@ use Rattle.audit_sd.specs.declared.subscriptions.key.SubscriptionKey.{Subscripti
 use Rattle.audit_traffic.specs.declared.events.flow.EventFlow.{EventFlow}
 use Rattle.audit_traffic.specs.declared.events.last_event.LastEvent.{LastEvent}
 use Rattle.audit_traffic.specs.events.EventRules.{disturbed, is_between}
+use Rattle.audit_traffic.specs.sequence.CountedFlows.{counted_service}
 use Rattle.audit_traffic.specs.sequence.Sequences.{Sequence, after_change}
 use Rattle.audit_traffic.specs.events.FlowOrder.{exact_flows, flows_total}
 use Rattle.audit_traffic.specs.declared.cycles.watch.Watch.{Watch}
@@ -31,14 +32,14 @@ same (Some last) = refl
 -- a flow is disturbed where one of the subscriptions is between its receiver and its sender
 pub flow_disturbed : (keys : List SubscriptionKey) (events : Sequence) (flow : EventFlow)
     → finite.get (each_disturbed keys events).events.flows flow
-    ≡ option_map (λ last. if list_any (λ (key : SubscriptionKey). is_between key.client key.server flow) keys then disturbed last else last) (finite.get events.events.flows flow)
+    ≡ option_map (λ last. if list_any (λ (key : SubscriptionKey). is_between key.client key.server (counted_service events.counting key.service) flow) keys then disturbed last else last) (finite.get events.events.flows flow)
 flow_disturbed [] events flow = same (finite.get events.events.flows flow)
 flow_disturbed (key ∷ keys) events flow =
-    let others : Bool = list_any (λ (k : SubscriptionKey). is_between k.client k.server flow) keys in
-    flow_disturbed keys (after_change key.client key.server events) flow
+    let others : Bool = list_any (λ (k : SubscriptionKey). is_between k.client k.server (counted_service events.counting k.service) flow) keys in
+    flow_disturbed keys (after_change key.client key.server key.service events) flow
     ∙ ap (option_map (λ last. if others then disturbed last else last))
-    (get-changed flows_total exact_flows (λ f last. if is_between key.client key.server f then disturbed last else last) events.events.flows flow)
-    ∙ twice (is_between key.client key.server flow) others (finite.get events.events.flows flow)
+    (get-changed flows_total exact_flows (λ f last. if is_between key.client key.server (counted_service events.counting key.service) f then disturbed last else last) events.events.flows flow)
+    ∙ twice (is_between key.client key.server (counted_service events.counting key.service) flow) others (finite.get events.events.flows flow)
 
 -- ---- watches
 

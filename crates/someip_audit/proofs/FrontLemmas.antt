@@ -1,6 +1,5 @@
 -- What was told stays at the front of what is told.
 use Rattle.std.proofs.Common.{◌≡◌, ℕ, ◌+◌, ◌==◌, ◌<◌, ◌&&◌, Bool, true, false, List, [], ◌∷◌, ◌++◌, length, get_or, drop, map, if◌then◌else◌, Option, None, Some, refl, ap, sym, subst, ◌∙◌}
-use Rattle.std.proofs.lemmas.List.{drop_more}
 use Rattle.std.specs.Prelude.{Result, Ok, Err, max, option_map}
 use Rattle.std.specs.Result.{OnErr}
 use Rattle.std.specs.declared.net.socket_addr.SocketAddrV4.{SocketAddrV4}
@@ -30,8 +29,10 @@ use Rattle.audit_traffic.specs.sequence.Sequences as events
 use Rattle.audit_traffic.specs.ways.WayTables as ways
 use Rattle.someip_wire.specs.Reading.{items_of}
 use Rattle.someip_audit.specs.Audits.{Seen, datagram_shown, seen_work, without_passed}
-use Rattle.someip_audit.specs.WatchedEndpoints.{is_at_discovery, is_looked_at}
-use Rattle.someip_audit.specs.AnyShown.{any_shown, in_datagram, is_sd, item_len, item_shown, items_shown, payload_shown}
+use Rattle.audit_endpoints.specs.DiscoveryMessages.{is_at_discovery}
+use Rattle.audit_endpoints.specs.WatchedEndpoints.{is_looked_at}
+use Rattle.someip_audit.specs.AnyShown.{any_shown, in_datagram, item_len, item_shown, items_shown, payload_shown}
+use Rattle.audit_endpoints.specs.DiscoveryMessages.{is_sd}
 use Rattle.audit_traffic.specs.declared.events.flow.EventFlow.{EventFlow}
 use Rattle.someip_audit.specs.AnswerTimes.{cycle_ms_of}
 use Rattle.someip_audit.specs.MessageShown.{call_shown, code_shown, cycle_shown, delivery, event_flow, event_seen, event_shown, flow_shown, has_no_tp_header, is_event, is_of_call, judged_shown, message_shown, piece_shown, rest_shown, segment_at, segment_held, segment_shown, segment_told, told_of_code, told_of_way, way_of, way_shown, whole_shown, whole_taken, watch_shown}
@@ -40,7 +41,8 @@ use Rattle.audit_sd.specs.declared.receivers.entry.WithdrawnOffer.{WithdrawnOffe
 use Rattle.audit_sd.specs.declared.subscriptions.entry.SubscribeEntry.{SubscribeEntry}
 use Rattle.audit_sd.specs.declared.receivers.entry.ReceiverEntry.{ReceiverEntry}
 use Rattle.someip_audit.specs.declared.finding.Finding.{Finding}
-use Rattle.someip_audit.specs.SdEntries.{named_endpoint, offer_entry, receiver_entry, sd_message, subscribe_entry, withdrawn_offer}
+use Rattle.audit_endpoints.specs.NamedEndpoints.{named_endpoint}
+use Rattle.someip_audit.specs.SdEntries.{offer_entry, receiver_entry, sd_message, subscribe_entry, withdrawn_offer}
 use Rattle.someip_audit.specs.SdShown.{IsBegun, IsFront, Work, changed, ended_shown, endpoint_shown, entries_shown, entry_shown, good_shown, group_shown, group_taken, head_shown, offer_noted, offer_shown, offered_shown, options_shown, receiver_shown, sd_shown, server_shown, service_shown, session_shown, stop_shown, subscribe_shown, taken_shown, told_of_options, told_unasked, unasked_shown, with_told, working}
 
 nothing_more : (xs : List Finding) → xs ++ [] ≡ xs
@@ -154,11 +156,6 @@ on_err_any (Err error) is = is
 pub on_err_by : {T E P Q : Type 0} (result : Result T E) → (P → Q) → OnErr result P → OnErr result Q
 on_err_by (Ok value) by is = tt
 on_err_by (Err error) by is = by is
-
--- what a loop has left
-
-pub next_left : {X : Type 0} (xs : List X) (i : ℕ) (x : X) → i < length xs → x ≡ get_or xs i x → drop i xs ≡ x ∷ drop (i + 1) xs
-next_left xs i x lt is = drop_more xs i x lt ∙ ap (λ y. y ∷ drop (i + 1) xs) (sym is)
 
 pub front_moved : (before told : List Finding) (held : Held) (work : Work) → working held told ≡ work → IsFront before work.told → IsFront before told
 front_moved before told held work is front = rw (ap (λ (w : Work). w.told) is) front

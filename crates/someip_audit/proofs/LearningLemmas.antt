@@ -30,13 +30,16 @@ use Rattle.audit_traffic.specs.segments.SegmentBooks as segments
 use Rattle.audit_sd.specs.receivers.ReceiverTables as receivers
 use Rattle.audit_traffic.specs.declared.events.flow.EventFlow.{EventFlow}
 use Rattle.someip_audit.specs.AnswerTimes.{cycle_ms_of}
-use Rattle.someip_audit.specs.AnyShown.{is_sd, item_len, item_shown, items_shown, payload_shown}
+use Rattle.audit_endpoints.specs.DiscoveryMessages.{is_sd}
+use Rattle.someip_audit.specs.AnyShown.{item_len, item_shown, items_shown, payload_shown}
 use Rattle.someip_audit.specs.BooksHeld.{Held}
-use Rattle.someip_audit.specs.Learning.{learnt_of, learnt_of_item, learnt_of_items, learnt_of_payload, named_by, once_named_by}
+use Rattle.audit_endpoints.specs.Learning.{learnt_of, learnt_of_item, learnt_of_items, learnt_of_payload, named_by, once_named_by}
 use Rattle.someip_audit.specs.MessageShown.{call_shown, code_shown, cycle_shown, delivery, event_flow, event_shown, flow_shown, has_no_tp_header, is_event, is_of_call, judged_shown, message_shown, piece_shown, segment_at, segment_held, segment_shown, segment_told, watch_shown, whole_shown, whole_taken}
-use Rattle.someip_audit.specs.SdEntries.{named_endpoint, offer_entry, offers_by, sd_message, withdrawn_offer}
+use Rattle.audit_endpoints.specs.NamedEndpoints.{named_endpoint}
+use Rattle.someip_audit.specs.SdEntries.{offer_entry, offers_by, sd_message, withdrawn_offer}
 use Rattle.someip_audit.specs.SdShown.{Work, after_session, endpoint_shown, entries_shown, entry_shown, head_of, head_shown, offer_noted, offer_shown, offered_shown, options_shown, server_ended, server_shown, service_shown, session_shown, stop_shown, taken_shown}
-use Rattle.someip_audit.specs.WatchedEndpoints.{Watch, is_at_discovery}
+use Rattle.audit_endpoints.specs.WatchedEndpoints.{Watch}
+use Rattle.audit_endpoints.specs.DiscoveryMessages.{is_at_discovery}
 
 -- what was learnt, of what is worked on
 abbrev learnt : Work → Watch
@@ -183,15 +186,3 @@ pub items_learnt : (now : ℕ) (origin : Origin) (place : ℕ) (items : List (Re
 items_learnt now origin place [] work = refl
 items_learnt now origin place (item ∷ items) work =
     items_learnt now origin (place + item_len item) items (item_shown now origin place item work) ∙ ap (learnt_of_items origin items) (item_learnt now origin place item work)
-
--- ---- datagrams between other ports
-
-item_of_others : (origin : Origin) (item : Result MessageValue WireError) (watched : Watch) → is_at_discovery origin ≡ false → learnt_of_item origin item watched ≡ watched
-item_of_others origin (Ok message) watched other = ap (λ b. if b && is_discovery message.header then learnt_of_payload (reading message.payload) watched else watched) other
-item_of_others origin (Err fault) watched other = refl
-
--- they name nothing
-pub items_of_others : (origin : Origin) (items : List (Result MessageValue WireError)) (watched : Watch) → is_at_discovery origin ≡ false → learnt_of_items origin items watched ≡ watched
-items_of_others origin [] watched other = refl
-items_of_others origin (item ∷ items) watched other =
-    items_of_others origin items (learnt_of_item origin item watched) other ∙ item_of_others origin item watched other

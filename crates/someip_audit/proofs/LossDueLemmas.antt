@@ -21,7 +21,7 @@ use Rattle.someip_audit.specs.declared.rules.AuditRules.{AuditRules}
 use Rattle.someip_audit.specs.Audits.{AuditState, Audits, Drains, Report, Seen, after_seen, audit_begun, fell, found, seen_shown}
 use Rattle.someip_audit.specs.FellDues.{IsAwaited, after_due, deadline, fell_cmp}
 use Rattle.someip_audit.specs.Losses.{AgreeOnLosses, is_lost_event, lost_events, session_findings, session_reports, speaks_of_sessions, tells_of_sessions}
-use Rattle.someip_audit.specs.WatchedEndpoints.{watch_begun}
+use Rattle.audit_endpoints.specs.WatchedEndpoints.{watch_begun}
 use Rattle.someip_audit.proofs.LossLemmas.{Ground, ground_of, kept_more, same_left, same_shown}
 use Rattle.someip_audit.proofs.NextLemmas.{by_key, lost_one, missing_one, one_key, same_book}
 

@@ -58,15 +58,19 @@ use Rattle.audit_traffic.specs.sequence.Sequences.{Sequence}
 use Rattle.someip_audit.specs.declared.finding.Finding.{Finding}
 use Rattle.someip_audit.specs.declared.finding.Finding.TheVariants as findings
 use Rattle.someip_audit.specs.AnswerTimes.{answer_ms_of, cycle_ms_of}
-use Rattle.someip_audit.specs.AnyShown.{in_datagram, is_sd, item_len, item_shown, items_shown, payload_shown}
+use Rattle.someip_audit.specs.AnyShown.{in_datagram, item_len, item_shown, items_shown, payload_shown}
+use Rattle.audit_endpoints.specs.DiscoveryMessages.{is_sd}
 use Rattle.someip_audit.specs.Audits.{AuditState, Seen, after_seen, datagram_shown, each_disturbed, seen_shown, seen_work, without_passed}
 use Rattle.someip_audit.specs.BooksHeld.{Held}
 use Rattle.someip_audit.specs.Losses.{session_findings, tells_of_sessions}
 use Rattle.someip_audit.specs.MessageShown.{call_shown, code_shown, cycle_shown, delivery, event_flow, event_seen, event_shown, flow_shown, has_no_tp_header, is_error, is_event, is_of_call, judged_shown, message_shown, piece_shown, segment_at, segment_held, segment_shown, segment_told, server_message, tapped_in, told_of_cycle, told_of_way, watch_shown, way_of, way_shown, whole_shown, whole_taken}
-use Rattle.someip_audit.specs.SdEntries.{instance_of, lacks_endpoint, named_endpoint, offer_entry, offers_by, receiver_entry, sd_message, sender, server_offer, subscribe_entry, withdrawn_offer}
-use Rattle.someip_audit.specs.SdShown.{Work, after_session, changed, ended_shown, endpoint_shown, entries_shown, entry_shown, group_shown, head_of, head_shown, offer_noted, offer_shown, offered_shown, options_shown, receiver_shown, server_ended, server_shown, service_shown, session_shown, stop_shown, subscribe_shown, taken_shown, told_of_options, told_of_servers, told_unasked, unasked_shown, with_told, withdrawn, working}
-use Rattle.someip_audit.specs.WatchedEndpoints as watching
-use Rattle.someip_audit.specs.WatchedEndpoints.{Watch, is_at_discovery, is_looked_at}
+use Rattle.someip_audit.specs.SdEntries.{instance_of, lacks_endpoint, offer_entry, offers_by, receiver_entry, sd_message, sender, server_offer, subscribe_entry, withdrawn_offer}
+use Rattle.audit_endpoints.specs.NamedEndpoints.{named_endpoint}
+use Rattle.someip_audit.specs.SdShown.{Work, after_session, changed, disturbed_if, ended_shown, endpoint_shown, entries_shown, entry_shown, group_shown, head_of, head_shown, offer_noted, offer_shown, offered_shown, options_shown, receiver_shown, server_ended, server_shown, service_shown, session_shown, stop_shown, subscribe_shown, taken_shown, told_of_endpoint, told_of_options, told_of_servers, told_unasked, unasked_shown, with_told, withdrawn, working}
+use Rattle.audit_endpoints.specs.WatchedEndpoints as watching
+use Rattle.audit_endpoints.specs.declared.finding.Finding.{Finding as EndpointFinding}
+use Rattle.audit_endpoints.specs.WatchedEndpoints.{Watch, is_looked_at}
+use Rattle.audit_endpoints.specs.DiscoveryMessages.{is_at_discovery}
 
 -- what the findings of sessions rest on, and those that were told so far
 pub record Ground : Type 0 where
@@ -400,7 +404,7 @@ unasked_leaves now entry work =
 
 abbrev group_ground : ℕ → SubscribeEntry → Option SocketAddrV4 → Ground → Ground
 group_ground now entry endpoint g =
-    record g { standing = standing_after now (receiver_entry entry endpoint) g.limit g.standing; events = events.after_change entry.key.client entry.key.server g.events }
+    record g { standing = standing_after now (receiver_entry entry endpoint) g.limit g.standing; events = disturbed_if (receivers.begins_or_ends (receiver_entry entry endpoint) g.standing) entry.key g.events }
 
 group_is : (now : ℕ) (entry : SubscribeEntry) (endpoint : Option SocketAddrV4) (work : Work) → ground (group_shown now entry endpoint work) ≡ group_ground now entry endpoint (ground work)
 group_is now entry endpoint work =
@@ -408,7 +412,7 @@ group_is now entry endpoint work =
     let disturbed : Work = changed entry endpoint asked in
     let come : ReceiverEntry = receiver_entry entry endpoint in
     let received : Ground → Ground = λ g. record g { standing = standing_after now come g.limit g.standing } in
-    let altered : Ground → Ground = λ g. record g { events = events.after_change entry.key.client entry.key.server g.events } in
+    let altered : Ground → Ground = λ g. record g { events = disturbed_if (receivers.begins_or_ends come g.standing) entry.key g.events } in
     receiver_is now come (subscribe_shown now entry disturbed) ∙ ap received (subscribe_leaves now entry disturbed) ∙ ap received (ap altered (unasked_leaves now entry work))
 
 abbrev head_ground : ℕ → Origin → EntryHead → Option SocketAddrV4 → Ground → Ground
@@ -422,27 +426,19 @@ head_is now origin (Eventgroup entry) endpoint work = group_is now (subscribe_en
 
 -- an endpoint that is learnt
 
-learnt_heard : (endpoint : SocketAddrV4) (watched : Watch) (told : List Finding)
-    → session_findings (with_told (watching.told_of_endpoint endpoint watched) told) ≡ with_told (watching.told_of_endpoint endpoint watched) (session_findings told)
-learnt_heard endpoint watched told = cases (watching.is_passed_over endpoint watched) (nat_lt (finite.len watched.learnt) watched.limit) watched.told_full
-  where
-    cases : (a b c : Bool)
-        → session_findings (with_told (if a then None else if b then None else told_when_full findings.EndpointsFull c) told)
-        ≡ with_told (if a then None else if b then None else told_when_full findings.EndpointsFull c) (session_findings told)
-    cases true b c = refl
-    cases false true c = refl
-    cases false false true = refl
-    cases false false false = heard_one findings.EndpointsFull told refl
+learnt_heard : (shown : Option EndpointFinding) (told : List Finding) → session_findings (with_told (told_of_endpoint shown) told) ≡ with_told (told_of_endpoint shown) (session_findings told)
+learnt_heard None told = refl
+learnt_heard (Some shown) told = heard_one findings.EndpointsFull told refl
 
 endpoint_ground : Option SocketAddrV4 → Ground → Ground
 endpoint_ground None g = g
-endpoint_ground (Some endpoint) g = record g { watched = watching.once_named endpoint g.watched; told = with_told (watching.told_of_endpoint endpoint g.watched) g.told }
+endpoint_ground (Some endpoint) g = record g { watched = watching.once_named endpoint g.watched; told = with_told (told_of_endpoint (watching.told_of_endpoint endpoint g.watched)) g.told }
 
 endpoint_is : (endpoint : Option SocketAddrV4) (work : Work) → ground (endpoint_shown endpoint work) ≡ endpoint_ground endpoint (ground work)
 unfolding endpoint_ground
 endpoint_is None work = refl
 endpoint_is (Some endpoint) work =
-    ap (ground_in (record work.held { watched = watching.once_named endpoint work.held.watched })) (learnt_heard endpoint work.held.watched work.told)
+    ap (ground_in (record work.held { watched = watching.once_named endpoint work.held.watched })) (learnt_heard (watching.told_of_endpoint endpoint work.held.watched) work.told)
 
 taken_ground : ℕ → Origin → ReadValue → Ground → Ground
 taken_ground now origin (good entry) g =
@@ -458,7 +454,7 @@ taken_is now origin (good entry) work =
 taken_is now origin (bad_run head) work = head_is now origin head None work
 
 options_unheard : (entry : ReadValue) (told : List Finding) → session_findings (with_told (told_of_options entry) told) ≡ session_findings told
-options_unheard (good entry) told = cases (lacks_endpoint entry.head (first_udp_endpoint (options_of entry)))
+options_unheard (good entry) told = cases (lacks_endpoint entry)
   where
     cases : (b : Bool) → session_findings (with_told (if b then Some (findings.NoEndpoint (instance_of entry.head)) else None) told) ≡ session_findings told
     cases true = unheard_one (findings.NoEndpoint (instance_of entry.head)) told refl

@@ -49,14 +49,17 @@ use Rattle.audit_sd.specs.receivers.ReceiverTables as receivers
 use Rattle.audit_sd.specs.receivers.ReceiverTables.{Receivers, Subscriptions}
 use Rattle.audit_traffic.specs.segments.SegmentBooks as segments
 use Rattle.someip_audit.specs.AnswerTimes.{cycle_ms_of}
-use Rattle.someip_audit.specs.AnyShown.{is_sd, item_len, item_shown, items_shown, payload_shown}
+use Rattle.audit_endpoints.specs.DiscoveryMessages.{is_sd}
+use Rattle.someip_audit.specs.AnyShown.{item_len, item_shown, items_shown, payload_shown}
 use Rattle.someip_audit.specs.Audits.{AuditState, Seen, after_seen, datagram_shown, without_passed}
 use Rattle.someip_audit.specs.BooksHeld.{Held}
 use Rattle.someip_audit.specs.FellDues.{NonePassed}
 use Rattle.someip_audit.specs.MessageShown.{call_shown, code_shown, cycle_shown, delivery, event_flow, event_shown, flow_shown, has_no_tp_header, is_event, is_of_call, judged_shown, message_shown, piece_shown, segment_at, segment_held, segment_shown, segment_told, watch_shown, whole_shown, whole_taken}
-use Rattle.someip_audit.specs.SdEntries.{named_endpoint, offer_entry, offers_by, receiver_entry, sd_message, subscribe_entry, withdrawn_offer}
+use Rattle.audit_endpoints.specs.NamedEndpoints.{named_endpoint}
+use Rattle.someip_audit.specs.SdEntries.{offer_entry, offers_by, receiver_entry, sd_message, subscribe_entry, withdrawn_offer}
 use Rattle.someip_audit.specs.SdShown.{Work, after_session, endpoint_shown, entries_shown, entry_shown, head_of, head_shown, offer_noted, offer_shown, offered_shown, options_shown, server_ended, server_shown, service_shown, session_shown, stop_shown, taken_shown, working}
-use Rattle.someip_audit.specs.WatchedEndpoints.{is_at_discovery, is_looked_at}
+use Rattle.audit_endpoints.specs.DiscoveryMessages.{is_at_discovery}
+use Rattle.audit_endpoints.specs.WatchedEndpoints.{is_looked_at}
 use Rattle.someip_audit.proofs.CycleStepLemmas.{standing_same}
 
 -- ---- subscriptions that come and go

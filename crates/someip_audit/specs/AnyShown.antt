@@ -2,23 +2,18 @@
 use Rattle.std.specs.Prelude.{ℕ, ◌+◌, Bool, ◌&&◌, if◌then◌else◌, List, [], ◌∷◌, length, Some, Result, Ok, Err}
 use Rattle.someip_wire.specs.declared.error.WireError.{WireError}
 use Rattle.someip_wire.specs.declared.header.Header.{Header}
-use Rattle.someip_wire.specs.Discovery.{is_discovery}
 use Rattle.someip_wire.specs.Spelling.{MessageValue, spelling}
 use Rattle.sd_wire.specs.declared.error.SdError.{SdError}
 use Rattle.sd_wire.specs.declared.error.SdError.TheVariants as faults
 use Rattle.sd_wire.specs.decoding.Program.{reading}
 use Rattle.sd_wire.specs.contents.Values.{SdValue}
 use Rattle.someip_tables.specs.declared.hashed.origin.Origin.{Origin}
+use Rattle.audit_endpoints.specs.DiscoveryMessages.{is_sd}
 use Rattle.someip_audit.specs.declared.finding.Finding.TheVariants as findings
 use Rattle.someip_audit.specs.MessageShown.{message_shown}
 use Rattle.someip_audit.specs.SdShown.{Work, sd_shown, with_told}
-use Rattle.someip_audit.specs.WatchedEndpoints.{is_at_discovery}
 
 -- ---- a message
-
--- a message is one of Service Discovery: it has the header of one, and goes from or to port 30490
-abbrev pub is_sd : Origin → Header → Bool
-is_sd origin header = is_at_discovery origin && is_discovery header
 
 -- a fault of a payload that begins at this place of its datagram, with its place from the datagram's first byte
 abbrev pub in_datagram : ℕ → SdError → SdError

@@ -17,7 +17,7 @@ use Rattle.someip_audit.specs.AnyShown.{items_shown, message_count}
 use Rattle.someip_audit.specs.BooksHeld.{Held, empty_held}
 use Rattle.someip_audit.specs.FellDues.{IsDue, after_due, fell_cmp}
 use Rattle.someip_audit.specs.SdShown.{Work, working}
-use Rattle.someip_audit.specs.WatchedEndpoints.{is_looked_at}
+use Rattle.audit_endpoints.specs.WatchedEndpoints.{is_looked_at}
 
 -- what contracts see of an audit: what its books hold
 abbrev pub AuditState : Type 0
@@ -29,17 +29,17 @@ audit_begun rules bench ports learns now = empty_held rules bench ports learns n
 
 -- ---- what expires
 
--- the flows between the client and the server of each of these subscriptions are disturbed
+-- the flows of the service of each of these subscriptions between its client and its server are disturbed
 abbrev pub each_disturbed : List SubscriptionKey → Sequence → Sequence
 each_disturbed [] events = events
-each_disturbed (key ∷ keys) events = each_disturbed keys (after_change key.client key.server events)
+each_disturbed (key ∷ keys) events = each_disturbed keys (after_change key.client key.server key.service events)
 
 -- the events of each of these subscriptions are watched no more
 abbrev pub each_unwatched : List SubscriptionKey → Cycles → Cycles
 each_unwatched [] cycles = cycles
 each_unwatched (key ∷ keys) cycles = each_unwatched keys (without_subscribed key.server key.service key.client cycles)
 
--- the subscriptions that have expired end, their events are watched no more, and the flows between the client and the server of each are disturbed
+-- the subscriptions that have expired end, their events are watched no more, and the flows of the service of each between its client and its server are disturbed
 abbrev pub without_passed : ℕ → Held → Held
 without_passed now held =
     record held { receivers = without_expired now held.receivers; events = each_disturbed (finite.keys (expired now held.receivers.standing)) held.events; cycles = each_unwatched (finite.keys (expired now held.receivers.standing)) held.cycles }

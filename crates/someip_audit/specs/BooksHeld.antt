@@ -16,7 +16,7 @@ use Rattle.audit_traffic.specs.cycles.CycleTables.{Cycles, coded_cycles}
 use Rattle.audit_traffic.specs.ways.WayTables.{Ways, coded_ways}
 use Rattle.someip_audit.specs.declared.rules.AuditRules.{AuditRules}
 use Rattle.someip_audit.specs.AnswerTimes.{Times, coded_times}
-use Rattle.someip_audit.specs.WatchedEndpoints.{Watch, coded_watch, watch_begun}
+use Rattle.audit_endpoints.specs.WatchedEndpoints.{Watch, coded_watch, watch_begun}
 
 -- how long answers may take, the value of each book, which datagrams are looked at, and whether an Offer was seen
 pub record Held : Type 0 where

@@ -32,13 +32,15 @@ use Rattle.audit_traffic.specs.cycles.CycleReasons.{IsToldSilent}
 use Rattle.someip_audit.specs.declared.fell_due.FellDue.{FellDue}
 use Rattle.someip_audit.specs.declared.fell_due.FellDue.TheVariants as due
 use Rattle.someip_audit.specs.AnswerTimes.{cycle_ms_of}
-use Rattle.someip_audit.specs.AnyShown.{is_sd, item_len, item_shown}
+use Rattle.audit_endpoints.specs.DiscoveryMessages.{is_sd}
+use Rattle.someip_audit.specs.AnyShown.{item_len, item_shown}
 use Rattle.someip_audit.specs.Audits.{AuditState, Drains, Seen, after_seen, without_passed}
 use Rattle.someip_audit.specs.BooksHeld.{Held}
 use Rattle.someip_audit.specs.MessageShown.{delivery, event_flow, has_no_tp_header, is_event}
 use Rattle.someip_audit.specs.SdEntries.{receiver_entry, sd_message, sender, subscribe_entry}
 use Rattle.someip_audit.specs.SdShown.{Work, entry_shown, session_shown, working}
-use Rattle.someip_audit.specs.WatchedEndpoints.{is_at_discovery, is_looked_at}
+use Rattle.audit_endpoints.specs.DiscoveryMessages.{is_at_discovery}
+use Rattle.audit_endpoints.specs.WatchedEndpoints.{is_looked_at}
 
 -- a step at a moment
 abbrev pub step_at : ℕ → Shown → Step

@@ -1,4 +1,3 @@
-pub mod WatchedEndpoints
 pub mod AnswerTimes
 pub mod BooksHeld
 pub mod FellDues
@@ -7,7 +6,6 @@ pub mod SdShown
 pub mod SdScenes
 pub mod MessageShown
 pub mod AnyShown
-pub mod Learning
 pub mod Audits
 pub mod CycleSteps
 pub mod groups

@@ -33,7 +33,7 @@ use Rattle.someip_audit.specs.AnswerTimes.{answer_ms_of, cycle_ms_of}
 use Rattle.someip_audit.specs.BooksHeld.{Held}
 use Rattle.someip_audit.specs.SdEntries.{server_key}
 use Rattle.someip_audit.specs.SdShown.{Work, with_told}
-use Rattle.someip_audit.specs.WatchedEndpoints.{is_at_discovery}
+use Rattle.audit_endpoints.specs.DiscoveryMessages.{is_at_discovery}
 
 -- ---- a whole message
 

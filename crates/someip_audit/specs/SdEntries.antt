@@ -1,5 +1,6 @@
 -- Messages and entries of Service Discovery, as the books take them (SOME/IP Service Discovery, "Entry Format").
-use Rattle.std.specs.Prelude.{ℕ, ◌==◌, Bool, true, false, not, ◌&&◌, if◌then◌else◌, Option, None, Some}
+use Rattle.std.specs.Prelude.{ℕ, ◌==◌, Bool, true, false, not, ◌&&◌, ◌||◌, if◌then◌else◌, Option, None, Some}
+use Rattle.std.specs.List.{list_any}
 use Rattle.std.specs.declared.net.ipv4_addr.Ipv4Addr.{Ipv4Addr}
 use Rattle.std.specs.declared.net.socket_addr.SocketAddrV4.{SocketAddrV4}
 use Rattle.std.specs.Net.Socket.{v4_ip}
@@ -11,7 +12,11 @@ use Rattle.sd_wire.specs.declared.entry.EventgroupKind.TheVariants as kinds
 use Rattle.sd_wire.specs.declared.entry.ServiceEntry.{ServiceEntry}
 use Rattle.sd_wire.specs.declared.entry.ServiceKind.{ServiceKind}
 use Rattle.sd_wire.specs.declared.entry.ServiceKind.TheVariants.{Find, Offer}
+use Rattle.sd_wire.specs.contents.Values.{EntryValue}
+use Rattle.sd_wire.specs.declared.endpoint.Protocol.{Protocol}
 use Rattle.sd_wire.specs.declared.flags.SdFlags.{SdFlags}
+use Rattle.sd_wire.specs.declared.option.SdOption.{SdOption}
+use Rattle.sd_wire.specs.declared.option.SdOption.TheVariants.{Endpoint4, Endpoint6}
 use Rattle.someip_tables.specs.declared.hashed.origin.Origin.{Origin}
 use Rattle.audit_sd.specs.declared.sessions.message.SdMessage.{SdMessage}
 use Rattle.audit_sd.specs.declared.offers.entry.OfferEntry.{OfferEntry}
@@ -25,6 +30,7 @@ use Rattle.audit_sd.specs.declared.subscriptions.entry.SubscribeEntry.{Subscribe
 use Rattle.audit_sd.specs.declared.subscriptions.key.SubscriptionKey.{SubscriptionKey}
 use Rattle.audit_sd.specs.declared.receivers.entry.ReceiverEntry.{ReceiverEntry}
 use Rattle.audit_sd.specs.declared.receivers.entry.WithdrawnOffer.{WithdrawnOffer}
+use Rattle.audit_endpoints.specs.NamedEndpoints.{is_offer, subscribes}
 use Rattle.someip_audit.specs.declared.finding.ServiceInstance.{ServiceInstance}
 
 -- the address that a datagram was sent from, and the one that it was sent to
@@ -96,28 +102,6 @@ subscribe_entry origin entry = record { key = subscription_key origin entry; kin
 abbrev pub receiver_entry : SubscribeEntry → Option SocketAddrV4 → ReceiverEntry
 receiver_entry entry endpoint = record { key = entry.key; kind = entry.kind; ttl = entry.ttl; endpoint = endpoint }
 
--- ---- the endpoints that are looked at
-
--- an entry is an Offer or a Subscribe, and no Find, StopOffer, StopSubscribe or answer
-abbrev pub offers : ServiceKind → Bool
-offers Find = false
-offers Offer = true
-
-abbrev pub is_offer : ServiceEntry → Bool
-is_offer entry = offers entry.kind && not (entry.ttl == 0)
-
-abbrev pub subscribes : EventgroupKind → Bool
-subscribes kinds.Subscribe = true
-subscribes kinds.Ack = false
-
-abbrev pub names_endpoint : EntryHead → Bool
-names_endpoint (Service entry) = is_offer entry
-names_endpoint (Eventgroup entry) = subscribes entry.kind && not (entry.ttl == 0)
-
--- the endpoint that an entry names, by the first IPv4 endpoint over UDP among its options, if it has one
-abbrev pub named_endpoint : EntryHead → Option SocketAddrV4 → Option SocketAddrV4
-named_endpoint head endpoint = if names_endpoint head then endpoint else None
-
 -- ---- the endpoints that are needed
 
 -- the instance that an entry is about
@@ -130,10 +114,19 @@ abbrev pub needs_endpoint : EntryHead → Bool
 needs_endpoint (Service entry) = is_offer entry
 needs_endpoint (Eventgroup entry) = subscribes entry.kind
 
--- it needs an IPv4 endpoint over UDP among its options, and has none
-abbrev pub lacks_endpoint : EntryHead → Option SocketAddrV4 → Bool
-lacks_endpoint head None = needs_endpoint head
-lacks_endpoint head (Some endpoint) = false
+-- a transport protocol that SOME/IP goes over: TCP (06) or UDP (11)
+abbrev pub is_transport : Protocol → Bool
+is_transport protocol = protocol.0 == 0x06 || protocol.0 == 0x11
+
+-- an option is an endpoint over one of them, of IPv4 or of IPv6 (types 04 and 06)
+abbrev pub is_endpoint : SdOption → Bool
+is_endpoint (Endpoint4 e) = is_transport e.protocol
+is_endpoint (Endpoint6 e) = is_transport e.protocol
+is_endpoint _ = false
+
+-- an entry needs an endpoint, and none of the options of its two runs is one
+abbrev pub lacks_endpoint : EntryValue → Bool
+lacks_endpoint entry = needs_endpoint entry.head && not (list_any is_endpoint entry.first || list_any is_endpoint entry.second)
 
 -- an entry with this head is an Offer
 abbrev pub offers_by : EntryHead → Bool

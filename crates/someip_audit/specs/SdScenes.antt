@@ -5,7 +5,8 @@ use Rattle.sd_wire.specs.declared.entry.EventgroupKind.{EventgroupKind}
 use Rattle.sd_wire.specs.declared.entry.EntryHead.TheVariants.{Service, Eventgroup}
 use Rattle.sd_wire.specs.declared.entry.ServiceEntry.{ServiceEntry}
 use Rattle.sd_wire.specs.declared.entry.ServiceKind.{ServiceKind}
-use Rattle.sd_wire.specs.declared.option.SdOption.TheVariants.{Endpoint4}
+use Rattle.sd_wire.specs.declared.option.SdOption.{SdOption}
+use Rattle.sd_wire.specs.declared.option.SdOption.TheVariants.{Endpoint4, Endpoint6, Multicast4}
 use Rattle.sd_wire.specs.contents.Values.{ReadValue, good}
 use Rattle.someip_wire.specs.declared.header.Header.{Header}
 use Rattle.someip_wire.specs.declared.header.MessageType.{MessageType}
@@ -18,7 +19,7 @@ use Rattle.audit_sd.specs.subscriptions.SubscribeExamples as subscribes
 use Rattle.someip_wire.specs.Spelling.{MessageValue}
 use Rattle.someip_tables.specs.declared.hashed.origin.Origin.{Origin}
 use Rattle.someip_audit.specs.SdShown.{Work}
-use Rattle.someip_audit.specs.WatchedEndpoints.{Watch, watch_begun}
+use Rattle.audit_endpoints.specs.WatchedEndpoints.{Watch, watch_begun}
 use Rattle.someip_audit.specs.declared.finding.Finding.{Finding}
 use Rattle.someip_audit.specs.declared.finding.ServiceInstance.{ServiceInstance}
 use Rattle.someip_audit.specs.declared.fell_due.FellDue.{FellDue}
@@ -31,6 +32,20 @@ service_entry kind ttl = record { kind = kind; service = 4096; instance = 1; maj
 -- with a UDP endpoint of node n
 abbrev pub with_endpoint : ServiceEntry → ℕ → ℕ → ReadValue
 with_endpoint entry n port = good (record { head = Service entry; first = Endpoint4 (record { socket = endpoint n port; protocol = record { 0 = 0x11 } }) ∷ []; second = [] })
+
+-- with one option
+abbrev pub with_option : ServiceEntry → SdOption → ReadValue
+with_option entry option = good (record { head = Service entry; first = option ∷ []; second = [] })
+
+-- an endpoint of node 1 over a transport protocol, of IPv4 and of IPv6; and a multicast group
+abbrev pub endpoint_4 : ℕ → SdOption
+endpoint_4 protocol = Endpoint4 (record { socket = endpoint 1 40000; protocol = record { 0 = protocol } })
+
+abbrev pub endpoint_6 : ℕ → SdOption
+endpoint_6 protocol = Endpoint6 (record { address = record { segments = 0xfd00 ∷ 0 ∷ 0 ∷ 0 ∷ 0 ∷ 0 ∷ 0 ∷ 1 ∷ [] }; port = 40000; protocol = record { 0 = protocol } })
+
+abbrev pub group_4 : SdOption
+group_4 = Multicast4 (record { socket = record { ip = record { octets = 224 ∷ 0 ∷ 0 ∷ 1 ∷ [] }; port = 40000 }; protocol = record { 0 = 17 } })
 
 -- without options
 abbrev pub without_endpoint : ServiceEntry → ReadValue

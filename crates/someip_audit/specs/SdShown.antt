@@ -28,11 +28,15 @@ use Rattle.audit_sd.specs.declared.subscriptions.key.SubscriptionKey.{Subscripti
 use Rattle.audit_traffic.specs.cycles.CycleTables as cycles
 use Rattle.audit_traffic.specs.cycles.CycleTables.{Cycles}
 use Rattle.audit_traffic.specs.sequence.Sequences as events
+use Rattle.audit_traffic.specs.sequence.Sequences.{Sequence}
+use Rattle.audit_endpoints.specs.NamedEndpoints.{named_endpoint}
+use Rattle.audit_endpoints.specs.WatchedEndpoints as watching
+use Rattle.audit_endpoints.specs.declared.finding.Finding.{Finding as EndpointFinding}
 use Rattle.someip_audit.specs.declared.finding.Finding.{Finding}
 use Rattle.someip_audit.specs.declared.finding.Finding.TheVariants as findings
 use Rattle.someip_audit.specs.BooksHeld.{Held}
-use Rattle.someip_audit.specs.SdEntries.{instance_of, lacks_endpoint, named_endpoint, offer_entry, offers_by, receiver_entry, sd_message, served_by, server_key, server_offer, subscribe_entry, withdrawn_offer}
-use Rattle.someip_audit.specs.WatchedEndpoints as watching
+use Rattle.someip_audit.specs.SdEntries.{instance_of, lacks_endpoint, offer_entry, offers_by, receiver_entry, sd_message, served_by, server_key, server_offer, subscribe_entry, withdrawn_offer}
+use Rattle.audit_endpoints.specs.NamedEndpoints.{named_endpoint}
 
 -- what the books hold, and what was told so far
 pub record Work : Type 0 where
@@ -143,16 +147,20 @@ receiver_shown now entry work = record {
 abbrev pub unwatched_if : Bool → SubscriptionKey → Cycles → Cycles
 unwatched_if ends key book = if ends then cycles.without_subscribed key.server key.service key.client book else book
 
--- a subscription changes: the events from its server to its client may go to nobody
+-- where a subscription begins or ends the events of its service from its server to its client may have gone to nobody
+abbrev pub disturbed_if : Bool → SubscriptionKey → Sequence → Sequence
+disturbed_if begins_or_ends key book = if begins_or_ends then events.after_change key.client key.server key.service book else book
+
+-- what the entry begins or ends: a renewal changes nothing
 abbrev pub changed : SubscribeEntry → Option SocketAddrV4 → Work → Work
 changed entry endpoint work = record work {
   held = record work.held {
-    events = events.after_change entry.key.client entry.key.server work.held.events;
+    events = disturbed_if (receivers.begins_or_ends (receiver_entry entry endpoint) work.held.receivers.standing) entry.key work.held.events;
     cycles = unwatched_if (receivers.ends (receiver_entry entry endpoint) work.held.receivers) entry.key work.held.cycles;
   };
 }
 
--- the books take an entry of an eventgroup: its subscription changes, and it shows what is told as to its answer, and then as to who
+-- the books take an entry of an eventgroup: its subscription may begin or end, and it shows what is told as to its answer, and then as to who
 -- is subscribed
 abbrev pub group_taken : ℕ → SubscribeEntry → Option SocketAddrV4 → Work → Work
 group_taken now entry endpoint work = receiver_shown now (receiver_entry entry endpoint) (subscribe_shown now entry (changed entry endpoint work))
@@ -173,12 +181,17 @@ abbrev pub head_shown : ℕ → Origin → EntryHead → Option SocketAddrV4 →
 head_shown now origin (Service entry) endpoint work = service_shown entry.kind now origin entry endpoint work
 head_shown now origin (Eventgroup entry) endpoint work = group_shown now (subscribe_entry origin entry) endpoint work
 
+-- that no more endpoints are learnt is told
+abbrev pub told_of_endpoint : Option EndpointFinding → Option Finding
+told_of_endpoint None = None
+told_of_endpoint (Some shown) = Some findings.EndpointsFull
+
 -- the endpoint that an entry names is learnt
 abbrev pub endpoint_shown : Option SocketAddrV4 → Work → Work
 endpoint_shown None work = work
 endpoint_shown (Some endpoint) work = record {
   held = record work.held { watched = watching.once_named endpoint work.held.watched };
-  told = with_told (watching.told_of_endpoint endpoint work.held.watched) work.told;
+  told = with_told (told_of_endpoint (watching.told_of_endpoint endpoint work.held.watched)) work.told;
 }
 
 -- and then what it shows
@@ -201,7 +214,7 @@ offer_noted entry held = if offers_by (head_of entry) then record held { is_offe
 
 -- what its options show: that one of its runs passes the options, or that it needs an endpoint and has none
 abbrev pub told_of_options : ReadValue → Option Finding
-told_of_options (good entry) = if lacks_endpoint entry.head (first_udp_endpoint (options_of entry)) then Some (findings.NoEndpoint (instance_of entry.head)) else None
+told_of_options (good entry) = if lacks_endpoint entry then Some (findings.NoEndpoint (instance_of entry.head)) else None
 told_of_options (bad_run head) = Some (findings.BadRun (instance_of head))
 
 abbrev pub options_shown : ReadValue → Work → Work

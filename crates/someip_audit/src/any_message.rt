@@ -1,22 +1,20 @@
 //! Any message of a recording over the books.
-ghost use Rattle.std.specs.Prelude.{◌≡◌, ◌≤◌, ◌+◌, length, IfOk, OnErr, OnOk};
-ghost use Rattle.std.specs.Result.{result_map_both};
+ghost use Rattle.std.specs.Prelude.{◌≡◌, ◌≤◌, ◌+◌, length, OnErr, OnOk};
 ghost use Rattle.someip_wire.specs.View.{view};
 ghost use Rattle.sd_wire.specs.decoding.Faults.{fault_place};
 ghost use Rattle.sd_wire.specs.decoding.Program.{reading};
-ghost use Rattle.sd_wire.specs.contents.Values.{view_sd};
-ghost use Rattle.someip_audit.specs.AnyShown.{any_shown, in_datagram, is_sd, payload_shown};
+ghost use Rattle.someip_audit.specs.AnyShown.{any_shown, in_datagram, payload_shown};
 ghost use Rattle.someip_audit.specs.SdShown.{IsBegun, working};
 
 use crate::books::Books;
 use crate::discovery::tell;
 use crate::finding::Finding;
-use crate::watched::is_at_discovery;
-use sd_wire::{SdError, SdRead, read_sd};
+use audit_endpoints::{is_sd, read_payload};
+use sd_wire::SdError;
 use someip_reassembly::Reassembly;
 use someip_tables::Moment;
 use someip_tables::hashed::Origin;
-use someip_wire::{Header, Message};
+use someip_wire::Message;
 use std::alloc::{AllocError, Global};
 
 impl<S: Reassembly> Books<S> {
@@ -80,20 +78,6 @@ impl<S: Reassembly> Books<S> {
             Err(fault) => tell(findings, Finding::MalformedSd(in_datagram(place, fault))),
         }
     }
-}
-
-/// Whether a message is one of Service Discovery: it has the header of one, and goes from or to port 30490.
-pub fn is_sd(origin: &Origin, header: &Header) -> bool
-    ensures { result ≡ is_sd origin.now header.now }
-{
-    is_at_discovery(origin) && header.is_discovery()
-}
-
-/// Reads the payload of a message of Service Discovery, and keeps want of memory apart from its faults.
-pub fn read_payload(alloc: Global, payload: &[u8]) -> Result<Result<SdRead, SdError>, AllocError>
-    ensures { IfOk result (λ found. result_map_both view_sd (λ e. e) found ≡ reading payload.now) }
-{
-    SdError::apart(read_sd(alloc, payload))
 }
 
 /// A fault of a payload that begins at a place of its datagram, with its place from the datagram's first

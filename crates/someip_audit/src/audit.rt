@@ -13,7 +13,7 @@ use crate::books::Books;
 use crate::fell_due::FellDue;
 use crate::finding::Finding;
 use crate::rules::AuditRules;
-use crate::watched::WatchRules;
+use audit_endpoints::WatchRules;
 use audit_rules::Rules;
 use audit_traffic::ways::OneWay;
 use someip_reassembly::Reassembly;

@@ -9,7 +9,7 @@ use crate::fell_due::FellDue;
 use crate::rules::AuditRules;
 use crate::soonest::{earlier, is_at, soonest, unless_ended};
 use crate::times::AnswerTimes;
-use crate::watched::{WatchRules, Watched};
+use audit_endpoints::{WatchRules, Watched};
 use audit_rules::Rules;
 use audit_sd::offers::OfferBook;
 use audit_sd::receivers::ReceiverBook;

@@ -12,10 +12,11 @@ ghost use Rattle.someip_audit.specs.SdShown.{told_of_options, told_unasked, with
 
 use crate::books::Books;
 use crate::entries::{
-    instance_of, lacks_endpoint, named_endpoint, offer_entry, offers_by, receiver_entry,
+    instance_of, lacks_endpoint, offer_entry, offers_by, receiver_entry,
     sd_message, served_by, server_key, server_offer, subscribe_entry, withdrawn_offer,
 };
 use crate::finding::Finding;
+use audit_endpoints::named_endpoint;
 use audit_sd::offers::OfferEntry;
 use audit_sd::receivers::{ReceiverEntry, WithdrawnOffer};
 use audit_sd::sessions::SdMessage;
@@ -180,7 +181,7 @@ impl<S: Reassembly> Books<S> {
             return Ok(());
         };
         match self.watched.learn(endpoint)? {
-            Some(shown) => tell(findings, shown),
+            Some(_) => tell(findings, Finding::EndpointsFull),
             None => Ok(()),
         }
     }
@@ -252,12 +253,17 @@ impl<S: Reassembly> Books<S> {
         self.saw_receiver(now, receiver_entry(&entry, endpoint), findings)
     }
 
-    /// A subscription changes, or ends.
+    /// A subscription begins or ends, or goes on.
     fn change(&mut self, entry: &SubscribeEntry, endpoint: Option<SocketAddrV4>)
         ensures { self.new ≡ (changed entry.now endpoint (working self.old [])).held }
     {
         let key = entry.key;
-        self.events.disturb(key.client, key.server);
+        if self
+            .receivers
+            .begins_or_ends(&receiver_entry(entry, endpoint))
+        {
+            self.events.disturb(key.client, key.server, key.service);
+        }
         if self.receivers.ends(&receiver_entry(entry, endpoint)) {
             self.cycles
                 .unsubscribed(key.server, key.service, key.client);
@@ -423,7 +429,7 @@ fn told_of_options(entry: &ReadEntry) -> Option<Finding>
 {
     match entry {
         ReadEntry::Good(entry) => {
-            if !lacks_endpoint(&entry.head, entry.udp_endpoint()) {
+            if !lacks_endpoint(entry) {
                 return None;
             }
             Some(Finding::NoEndpoint(instance_of(&entry.head)))

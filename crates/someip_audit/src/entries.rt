@@ -1,18 +1,23 @@
 //! Entries of Service Discovery as the books take them.
 ghost use Rattle.std.specs.Prelude.{◌≡◌};
-ghost use Rattle.someip_audit.specs.SdEntries.{instance_of, is_offer, lacks_endpoint, named_endpoint, names_endpoint};
+ghost use Rattle.std.specs.List.{list_any};
+ghost use Rattle.sd_wire.specs.contents.Values.{view_entry};
+ghost use Rattle.someip_audit.specs.SdEntries.{instance_of, is_endpoint, is_transport, lacks_endpoint};
 ghost use Rattle.someip_audit.specs.SdEntries.{needs_endpoint, offer_entry, offers_by, receiver_entry, sd_message};
 ghost use Rattle.someip_audit.specs.SdEntries.{served_by, server_key, server_offer, subscribe_entry};
 ghost use Rattle.someip_audit.specs.SdEntries.{withdrawn_offer};
 
 use crate::finding::ServiceInstance;
+use audit_endpoints::is_offer;
 use audit_sd::offers::{OfferEntry, OfferKey};
 use audit_sd::receivers::{ReceiverEntry, WithdrawnOffer};
 use audit_sd::servers::{Served, ServerKey, ServerOffer};
 use audit_sd::sessions::SdMessage;
 use audit_sd::subscriptions::{EntryKind, SubscribeEntry, SubscriptionKey};
 use sd_session::Stamp;
-use sd_wire::{EntryHead, EventgroupEntry, EventgroupKind, SdFlags, ServiceEntry, ServiceKind};
+use sd_wire::{
+    Entry, EntryHead, EventgroupEntry, EventgroupKind, Protocol, SdFlags, SdOption, ServiceEntry,
+};
 use someip_tables::Moment;
 use someip_tables::hashed::Origin;
 use std::net::SocketAddrV4;
@@ -132,16 +137,6 @@ pub(crate) fn receiver_entry(
     }
 }
 
-/// The endpoint that an entry names: that of an Offer or a Subscribe, if it has one.
-pub(crate) fn named_endpoint(
-    head: &EntryHead,
-    endpoint: Option<SocketAddrV4>,
-) -> Option<SocketAddrV4>
-    ensures { result ≡ named_endpoint head.now endpoint }
-{
-    if names_endpoint(head) { endpoint } else { None }
-}
-
 /// The instance that an entry is about.
 pub(crate) fn instance_of(head: &EntryHead) -> ServiceInstance
     ensures { result ≡ instance_of head.now }
@@ -153,14 +148,36 @@ pub(crate) fn instance_of(head: &EntryHead) -> ServiceInstance
     ServiceInstance { service, instance }
 }
 
-/// Whether an entry needs an endpoint, and has none.
-pub(crate) fn lacks_endpoint(head: &EntryHead, endpoint: Option<SocketAddrV4>) -> bool
-    ensures { result ≡ lacks_endpoint head.now endpoint }
+/// Whether an entry needs an endpoint, and none of its options is one.
+pub(crate) fn lacks_endpoint(entry: &Entry) -> bool
+    ensures { result ≡ lacks_endpoint (view_entry entry.now) }
 {
-    match endpoint {
-        Some(_) => false,
-        None => needs_endpoint(head),
+    needs_endpoint(&entry.head) && !(has_endpoint(&entry.run1) || has_endpoint(&entry.run2))
+}
+
+/// Whether one of some options is an endpoint.
+fn has_endpoint(options: &[SdOption]) -> bool
+    ensures { result ≡ list_any is_endpoint options.now }
+{
+    options.iter().any(is_endpoint)
+}
+
+/// Whether an option is an endpoint over TCP or UDP, of IPv4 or of IPv6.
+fn is_endpoint(option: &SdOption) -> bool
+    ensures { result ≡ is_endpoint option.now }
+{
+    match option {
+        SdOption::Endpoint4(endpoint) => is_transport(endpoint.protocol),
+        SdOption::Endpoint6(endpoint) => is_transport(endpoint.protocol),
+        _ => false,
     }
+}
+
+/// Whether SOME/IP goes over a transport protocol.
+fn is_transport(protocol: Protocol) -> bool
+    ensures { result ≡ is_transport protocol }
+{
+    protocol == Protocol::TCP || protocol == Protocol::UDP
 }
 
 /// Whether an entry is an Offer, a Subscribe or a StopSubscribe.
@@ -173,18 +190,6 @@ fn needs_endpoint(head: &EntryHead) -> bool
     }
 }
 
-/// Whether an entry is an Offer or a Subscribe.
-fn names_endpoint(head: &EntryHead) -> bool
-    ensures { result ≡ names_endpoint head.now }
-{
-    match head {
-        EntryHead::Service(entry) => is_offer(entry),
-        EntryHead::Eventgroup(entry) => {
-            matches!(entry.kind, EventgroupKind::Subscribe) && entry.ttl.seconds() != 0
-        }
-    }
-}
-
 /// Whether an entry with this head is an Offer.
 pub(crate) fn offers_by(head: &EntryHead) -> bool
     ensures { result ≡ offers_by head.now }
@@ -193,11 +198,4 @@ pub(crate) fn offers_by(head: &EntryHead) -> bool
         EntryHead::Service(entry) => is_offer(entry),
         EntryHead::Eventgroup(_) => false,
     }
-}
-
-/// Whether an entry about an instance is an Offer, and no Find or StopOffer.
-fn is_offer(entry: &ServiceEntry) -> bool
-    ensures { result ≡ is_offer entry.now }
-{
-    matches!(entry.kind, ServiceKind::Offer) && entry.ttl.seconds() != 0
 }

@@ -31,7 +31,7 @@ fn disturb_each(events: &mut SequenceBook, ended: &BTreeSet<SubscriptionKey>)
     ensures { events.new ≡ each_disturbed ended.now.keys events.old }
 {
     for key in ended.iter() {
-        events.disturb(key.client, key.server);
+        events.disturb(key.client, key.server, key.service);
     }
 }
 

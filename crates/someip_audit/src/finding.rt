@@ -50,7 +50,7 @@ pub enum Finding {
     MalformedSd(SdError),
     /// A run of options of an entry about this instance goes past the options of its message.
     BadRun(ServiceInstance),
-    /// An entry about this instance needs an IPv4 endpoint over UDP, and none of its options is one.
+    /// An entry about this instance needs an endpoint over UDP or TCP, and none of its options is one.
     NoEndpoint(ServiceInstance),
     /// An Offer or a Subscribe names an endpoint, and as many were learnt as may be. It is told once, and
     /// no more are learnt.

@@ -8,7 +8,9 @@ ghost use Rattle.audit_sd.specs.declared.subscriptions.finding.Finding.{Finding 
 ghost use Rattle.audit_sd.specs.declared.subscriptions.key.SubscriptionKey.{SubscriptionKey};
 ghost use Rattle.audit_sd.specs.subscriptions.SubscribeTables.{unasked_by};
 ghost use Rattle.audit_traffic.specs.declared.events.flow.EventFlow.{EventFlow};
+ghost use Rattle.audit_endpoints.specs.declared.finding.Finding.TheVariants as endpoint_findings;
 ghost use Rattle.audit_traffic.specs.events.EventRules.{disturbed, is_between};
+ghost use Rattle.audit_traffic.specs.sequence.CountedFlows.{counted_service};
 ghost use Rattle.audit_traffic.specs.sequence.Sequences.{Sequence};
 ghost use Rattle.someip_audit.specs.Audits.{AuditState, Audits, Report, Seen, datagram_shown, each_disturbed};
 ghost use Rattle.std.specs.FinMap as finite;
@@ -26,9 +28,10 @@ ghost use Rattle.someip_wire.specs.declared.error.WireError.TheVariants.{Truncat
 ghost use Rattle.sd_wire.specs.declared.error.SdError.TheVariants as faults;
 ghost use Rattle.someip_tables.specs.declared.hashed.origin.Origin.{Origin};
 ghost use Rattle.someip_audit.specs.declared.finding.Finding.TheVariants as findings;
-ghost use Rattle.someip_audit.specs.AnyShown.{is_sd, items_shown, message_count, payload_shown};
-ghost use Rattle.someip_audit.specs.Learning.{learnt_in, named_by};
-ghost use Rattle.someip_audit.specs.WatchedEndpoints.{Watch, is_at_learnt, is_looked_at, once_named, told_of_endpoint};
+ghost use Rattle.audit_endpoints.specs.DiscoveryMessages.{is_sd};
+ghost use Rattle.someip_audit.specs.AnyShown.{items_shown, message_count, payload_shown};
+ghost use Rattle.audit_endpoints.specs.Learning.{learnt_in, named_by};
+ghost use Rattle.audit_endpoints.specs.WatchedEndpoints.{Watch, is_at_learnt, is_looked_at, once_named, told_of_endpoint};
 ghost use Rattle.someip_audit.specs.SdScenes.{once_offered, once_told, segment_with, sent_from, at_40000};
 ghost use Rattle.someip_audit.specs.BooksHeld.{Held};
 ghost use Rattle.someip_audit.specs.FellDues.{fell_cmp};
@@ -36,9 +39,11 @@ ghost use Rattle.someip_audit.specs.MessageShown.{event_flow, event_shown, flow_
 ghost use Rattle.someip_audit.specs.MessageShown.{message_shown, server_message, told_of_code, way_of};
 ghost use Rattle.someip_audit.specs.MessageShown.{way_shown};
 ghost use Rattle.audit_traffic.specs.ways.WayTables.{after_message};
-ghost use Rattle.someip_audit.specs.SdEntries.{names_endpoint, offer_entry, subscribe_entry, withdrawn_offer};
+ghost use Rattle.audit_endpoints.specs.NamedEndpoints.{names_endpoint};
+ghost use Rattle.someip_audit.specs.SdEntries.{offer_entry, subscribe_entry, withdrawn_offer};
 ghost use Rattle.someip_audit.specs.SdScenes.{call_due, group_entry, lost_due, missing_due, offer_due, sd_header, service_entry, silent_due};
-ghost use Rattle.someip_audit.specs.SdScenes.{coded, group_without, instance_1, subscribe_due, with_endpoint, without_endpoint};
+ghost use Rattle.someip_audit.specs.SdScenes.{coded, endpoint_4, endpoint_6, group_4, group_without, instance_1, subscribe_due, with_endpoint};
+ghost use Rattle.someip_audit.specs.SdScenes.{with_option, without_endpoint};
 ghost use Rattle.someip_audit.specs.SdShown.{Work, after_session, begun_again, endpoint_shown, entry_shown, group_shown, group_taken};
 ghost use Rattle.someip_audit.specs.SdShown.{ended_shown, head_shown, offer_shown, server_shown};
 ghost use Rattle.someip_audit.specs.SdShown.{told_of_options, withdrawn};
@@ -90,11 +95,18 @@ pub fn entries_show_what_the_books_tell()
 {}
 
 /// What the options of an entry show, by example: of an Offer, a Subscribe and a StopSubscribe that none is an
-/// IPv4 endpoint over UDP; of a StopOffer, a Find and an Ack nothing; and of any entry that one of its runs goes
+/// endpoint over UDP or TCP, of IPv4 or IPv6; of a StopOffer, a Find and an Ack nothing; and of any entry that one of its runs goes
 /// past the options.
 pub fn entries_need_endpoints()
     ensures offer { told_of_options (without_endpoint (service_entry Offer 3)) ≡ Some (findings.NoEndpoint instance_1) }
     ensures with_one { told_of_options (with_endpoint (service_entry Offer 3) 1 40000) ≡ None }
+    ensures over_tcp { told_of_options (with_option (service_entry Offer 3) (endpoint_4 6)) ≡ None }
+    ensures of_ipv6 { told_of_options (with_option (service_entry Offer 3) (endpoint_6 6)) ≡ None }
+    ensures of_ipv6_over_udp { told_of_options (with_option (service_entry Offer 3) (endpoint_6 17)) ≡ None }
+    ensures over_another { told_of_options (with_option (service_entry Offer 3) (endpoint_4 1))
+        ≡ Some (findings.NoEndpoint instance_1) }
+    ensures of_a_group { told_of_options (with_option (service_entry Offer 3) group_4)
+        ≡ Some (findings.NoEndpoint instance_1) }
     ensures stop_offer { told_of_options (without_endpoint (service_entry Offer 0)) ≡ None }
     ensures find { told_of_options (without_endpoint (service_entry Find 3)) ≡ None }
     ensures subscribe { told_of_options (group_without groups.Subscribe 3) ≡ Some (findings.NoEndpoint instance_1) }
@@ -229,7 +241,7 @@ pub fn endpoints_are_learnt()
         ≡ record watch { learnt = finite.insert watch.learnt (endpoint 1 40000) tt } }
     ensures full { (watch : Watch) → watch.learns ≡ true → finite.get watch.learnt (endpoint 1 40000) ≡ None
         → nat_lt (finite.len watch.learnt) watch.limit ≡ false → watch.told_full ≡ false
-        → told_of_endpoint (endpoint 1 40000) watch ≡ Some findings.EndpointsFull }
+        → told_of_endpoint (endpoint 1 40000) watch ≡ Some endpoint_findings.Full }
     ensures once { (watch : Watch) → watch.told_full ≡ true → told_of_endpoint (endpoint 1 40000) watch ≡ None }
     ensures nothing { (watch : Watch) → watch.learns ≡ false → once_named (endpoint 1 40000) watch ≡ watch }
 {}
@@ -271,13 +283,13 @@ pub fn events_have_sessions()
         → flow_shown now origin (header_with 5 kinds.Response) work ≡ work }
 {}
 
-/// What subscriptions that expired leave of the events: a gap of each flow between the client and the
-/// server of one of them is excused, and the other flows stay as they are.
+/// What subscriptions that expired leave of the events: a gap of each flow of the service of one of them, as it is
+/// counted, between its client and its server is excused, and the other flows stay as they are.
 pub fn what_expires_excuses_gaps()
     ensures { (keys : List SubscriptionKey) (events : Sequence) (flow : EventFlow)
         → finite.get (each_disturbed keys events).events.flows flow
-        ≡ option_map (λ last. if list_any (λ (key : SubscriptionKey). is_between key.client key.server flow) keys
-        then disturbed last else last) (finite.get events.events.flows flow) }
+        ≡ option_map (λ last. if list_any (λ (key : SubscriptionKey). is_between key.client key.server
+        (counted_service events.counting key.service) flow) keys then disturbed last else last) (finite.get events.events.flows flow) }
 {}
 
 /// What is told of a recording, and what its audit is then, is determined by its datagrams in order.

@@ -1,10 +1,7 @@
 //! What a recording shows against the protocol, over the books of the kinds of findings.
 //!
-//! - [`Audit`]: what goes over a recording, over any body of `Reassembly`; [`AuditRules`]: its settings, and
-//!   [`WatchRules`]: which datagrams are looked at;
-//! - [`Learner`]: the endpoints that a recording names, and which datagrams are looked at for them, where nothing
-//!   is audited;
-//! - [`is_sd`], [`read_payload`], [`sd_message`]: messages of Service Discovery, for whatever else goes over them;
+//! - [`Audit`]: what goes over a recording, over any body of `Reassembly`; [`AuditRules`]: its settings;
+//! - [`sd_message`]: a message of Service Discovery as far as its sessions go, for whatever else goes over them;
 //! - [`groups`]: findings of one group, of which the first three are told;
 //! - [`Finding`]: what a datagram shows; [`FellDue`]: what falls due between datagrams;
 //! - [`laws`]: the definitions behind the contracts, by example; [`cycle_laws`]: why an event is told as silent;
@@ -23,19 +20,14 @@ mod fell_due;
 mod finding;
 pub mod groups;
 pub mod laws;
-mod learner;
 pub mod loss_laws;
 mod messages;
 mod rules;
 mod soonest;
 mod times;
-mod watched;
 
-pub use any_message::{is_sd, read_payload};
 pub use audit::Audit;
 pub use entries::sd_message;
 pub use fell_due::FellDue;
 pub use finding::{Finding, ServiceInstance};
-pub use learner::Learner;
 pub use rules::AuditRules;
-pub use watched::WatchRules;

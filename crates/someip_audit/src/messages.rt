@@ -20,7 +20,7 @@ use crate::books::Books;
 use crate::discovery::{tell, tell_if_any};
 use crate::entries::server_key;
 use crate::finding::Finding;
-use crate::watched::is_at_discovery;
+use audit_endpoints::is_at_discovery;
 use audit_sd::receivers::Delivery;
 use audit_sd::servers::ServerMessage;
 use audit_traffic::events::{EventFlow, Notification};

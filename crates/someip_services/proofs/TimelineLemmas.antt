@@ -49,7 +49,7 @@ use Rattle.audit_services.specs.SubscribedOrder.{subscribed}
 use Rattle.audit_services.specs.Timelines.{ended_in, ended_later, expired_by, intervals_of}
 use Rattle.audit_services.proofs.DatagramLemmas.{datagram_told}
 use Rattle.audit_services.proofs.HistoryLemmas.{a_book_tells_timelines, all_gone, under-append, under_all, unexpired_all}
-use Rattle.someip_audit.specs.AnyShown.{is_sd}
+use Rattle.audit_endpoints.specs.DiscoveryMessages.{is_sd}
 use Rattle.someip_audit.specs.Audits.{Seen}
 use Rattle.someip_audit.specs.SdEntries.{sd_message}
 use Rattle.someip_services.specs.declared.told.FullBook.{FullBook}

@@ -24,7 +24,7 @@ use Rattle.audit_services.specs.declared.subscribed.Subscribed.{Subscribed}
 use Rattle.audit_services.specs.declared.why.Why.TheVariants.{Reboot}
 use Rattle.audit_services.specs.Histories.{Event, events_at}
 use Rattle.audit_services.specs.SubscribedKeys.{all_of}
-use Rattle.someip_audit.specs.AnyShown.{is_sd}
+use Rattle.audit_endpoints.specs.DiscoveryMessages.{is_sd}
 use Rattle.someip_audit.specs.Audits.{Seen}
 use Rattle.someip_audit.specs.SdEntries.{sd_message}
 use Rattle.someip_services.specs.declared.told.Told.{Told}

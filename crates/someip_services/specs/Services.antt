@@ -24,7 +24,7 @@ use Rattle.audit_services.specs.Histories.{book_after, full_by, told_by}
 use Rattle.audit_services.specs.OfferedKeys.{offered_cmp, places_of_offered, terms_cmp}
 use Rattle.audit_services.specs.Stays.{all_ended}
 use Rattle.audit_services.specs.SubscribedKeys.{all_of, no_terms_cmp, place_cmp, places_of_subscribed, subscribed_cmp}
-use Rattle.someip_audit.specs.AnyShown.{is_sd}
+use Rattle.audit_endpoints.specs.DiscoveryMessages.{is_sd}
 use Rattle.someip_audit.specs.Audits.{Seen}
 use Rattle.someip_audit.specs.SdEntries.{sd_message}
 use Rattle.someip_services.specs.declared.told.FullBook.{FullBook}

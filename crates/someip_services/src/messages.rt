@@ -11,10 +11,11 @@ ghost use Rattle.someip_services.specs.declared.told.Told.TheVariants.{Offer, Su
 use crate::entries::{OfferShown, SubscriptionShown, offer_shown, subscription_shown};
 use crate::history::ServiceHistory;
 use crate::told::{FullBook, Told};
+use audit_endpoints::{is_sd, read_payload};
 use audit_sd::sessions::{Finding, SdMessage};
 use audit_services::{Ended, NoTerms, OfferTerms, Offered, Shown, Subscribed, Why, all_of};
 use sd_wire::{ReadEntry, SdRead};
-use someip_audit::{is_sd, read_payload, sd_message};
+use someip_audit::sd_message;
 use someip_tables::Moment;
 use someip_tables::hashed::Origin;
 use someip_wire::{Message, WireError};

@@ -8,7 +8,7 @@ use Rattle.recording_packets.specs.Intake.{ArrivalValue, after_packet, arrived}
 use Rattle.recording_writing.specs.Blocks.{links_after, number_of, put_of}
 use Rattle.recording_writing.specs.declared.Put.{Put}
 use Rattle.recording_writing.specs.declared.Put.TheVariants.{Exact, TooLong, Untimed}
-use Rattle.someip_audit.specs.WatchedEndpoints.{Watch}
+use Rattle.audit_endpoints.specs.WatchedEndpoints.{Watch}
 use Rattle.someipctl_recordings.specs.Sought.{Sought, after_items, is_sought, nothing_sought}
 use Rattle.someipctl_recordings.specs.Wanted.{WantedValue}
 use Rattle.someipctl_extract.specs.declared.output.Losses.{Losses}

@@ -20,7 +20,7 @@ use crate::output::{Losses, Output};
 use recording::{Record, RecordingReader};
 use recording_packets::fragments::{HeldFragments, PacketKey};
 use recording_packets::{Intake, LeftOut};
-use someip_audit::Learner;
+use audit_endpoints::Learner;
 use someipctl_io::{Buffer, Fault, PrintFault};
 use someipctl_recordings::read_loop::{Coming, next_coming};
 use someipctl_recordings::sought::{is_full, learner_of, seeks};

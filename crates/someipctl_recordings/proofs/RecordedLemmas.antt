@@ -6,7 +6,7 @@ use Rattle.recording.specs.Records.{Item}
 use Rattle.recording_packets.specs.Intake.{ArrivalValue, IntakeValue, after_packet, after_packets, arrivals, arrived}
 use Rattle.recording_packets.proofs.IntakeLemmas.{after_packets-append, arrivals-append}
 use Rattle.someipctl_recordings.specs.Files.{fault_among}
-use Rattle.someip_audit.specs.WatchedEndpoints.{Watch}
+use Rattle.audit_endpoints.specs.WatchedEndpoints.{Watch}
 use Rattle.someipctl_recordings.specs.Sought.{Sought, after_items, is_sought, learned_from, learned_from_all, sought_of}
 use Rattle.someipctl_recordings.specs.Wanted.{WantedValue}
 use Rattle.someipctl_recordings.specs.Asked.{AskedValue, asked_from}

@@ -3,8 +3,8 @@ use Rattle.std.specs.Prelude.{Bool, true, false, ◌&&◌, if◌then◌else◌, 
 use Rattle.recording.specs.Records.{Item}
 use Rattle.recording_packets.specs.Intake.{ArrivalValue, IntakeValue, after_packets, arrivals, nothing_taken}
 use Rattle.someip_tables.specs.declared.hashed.Origin.{Origin}
-use Rattle.someip_audit.specs.Learning.{is_looked_at_or_full, learnt_in}
-use Rattle.someip_audit.specs.WatchedEndpoints.{Watch, watch_begun}
+use Rattle.audit_endpoints.specs.Learning.{is_looked_at_or_full, learnt_in}
+use Rattle.audit_endpoints.specs.WatchedEndpoints.{Watch, watch_begun}
 use Rattle.someipctl_recordings.specs.Gathered.{socket_of}
 use Rattle.someipctl_recordings.specs.Wanted.{WantedValue, is_wanted, ports_of}
 

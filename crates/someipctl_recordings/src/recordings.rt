@@ -22,7 +22,7 @@ use crate::read_loop::{Coming, next_coming};
 use crate::sought::{is_full, learner_of, seeks};
 use recording::{Record, RecordingError, RecordingReader};
 use recording_packets::{Arrival, Intake, LeftOut};
-use someip_audit::Learner;
+use audit_endpoints::Learner;
 use someip_reassembly::Reassembly;
 use someipctl_io::{Buffer, Fault, Outcome, PrintFault};
 use someipctl_show::value_lines::ValueLines;

@@ -9,7 +9,7 @@ use Rattle.audit_stats.specs.Stats.{Fact, Stats, after_fact, stats_of}
 use Rattle.recording.specs.declared.Time.{Time}
 use Rattle.someip_audit.specs.Audits.{AuditState, Drains, IsNext, IsNoneDue, Seen, after_seen, seen_messages, seen_shown}
 use Rattle.someip_audit.specs.FellDues.{after_due}
-use Rattle.someip_audit.specs.WatchedEndpoints.{is_looked_at}
+use Rattle.audit_endpoints.specs.WatchedEndpoints.{is_looked_at}
 use Rattle.someip_audit.specs.declared.FellDue.{FellDue}
 use Rattle.someip_audit.specs.declared.Finding.{Finding}
 use Rattle.someip_tables.specs.declared.hashed.Origin.{Origin}

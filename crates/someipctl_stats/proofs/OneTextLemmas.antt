@@ -5,7 +5,7 @@ use Rattle.recording.specs.declared.Time.{Time}
 use Rattle.recording_packets.specs.Intake.{ArrivalValue}
 use Rattle.audit_stats.specs.Stats.{Stats}
 use Rattle.someip_audit.specs.Audits.{AuditState, Seen, after_seen, seen_shown}
-use Rattle.someip_audit.specs.WatchedEndpoints.{is_looked_at}
+use Rattle.audit_endpoints.specs.WatchedEndpoints.{is_looked_at}
 use Rattle.someip_audit.specs.declared.FellDue.{FellDue}
 use Rattle.someip_audit.proofs.NextLemmas.{drains_one}
 use Rattle.someipctl_accounts.specs.Accounts.{Came, IsAccount, TakesAll, came_in, latest_of}

@@ -7,7 +7,7 @@ use Rattle.recording_packets.specs.Intake.{ArrivalValue}
 use Rattle.audit_stats.specs.Stats.{Fact, Stats}
 use Rattle.someip_audit.specs.Audits.{AuditState, Seen, after_seen, audit_begun, seen_shown}
 use Rattle.someip_audit.specs.Losses.{AgreeOnLosses, is_lost_event, lost_events, session_findings, tells_of_sessions}
-use Rattle.someip_audit.specs.WatchedEndpoints.{is_looked_at}
+use Rattle.audit_endpoints.specs.WatchedEndpoints.{is_looked_at}
 use Rattle.someip_audit.specs.FellDues.{deadline}
 use Rattle.someip_audit.specs.declared.AuditRules.{AuditRules}
 use Rattle.someip_audit.specs.declared.FellDue.{FellDue}

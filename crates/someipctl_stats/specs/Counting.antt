@@ -3,10 +3,10 @@ use Rattle.std.specs.Prelude.{◌≡◌, ℕ, Bool, true, false, if◌then◌els
 use Rattle.std.specs.List.{flat_map}
 use Rattle.recording.specs.declared.Time.{Time}
 use Rattle.audit_stats.specs.Stats.{BeganAgain, Came, Discovered, Fact, Lost, Stats, after_fact}
-use Rattle.someip_audit.specs.AnyShown.{is_sd}
+use Rattle.audit_endpoints.specs.DiscoveryMessages.{is_sd}
 use Rattle.someip_audit.specs.Audits.{AuditState, Drains, Seen, after_seen, seen_shown}
 use Rattle.someip_audit.specs.FellDues.{deadline}
-use Rattle.someip_audit.specs.WatchedEndpoints.{is_looked_at}
+use Rattle.audit_endpoints.specs.WatchedEndpoints.{is_looked_at}
 use Rattle.someip_audit.specs.declared.FellDue.{FellDue}
 use Rattle.someip_audit.specs.declared.Finding.{Finding}
 use Rattle.someip_tables.specs.declared.hashed.Origin.{Origin}

@@ -10,9 +10,10 @@ ghost use Rattle.someipctl_stats.specs.Counting.{CountsDue, HearsSo, after_facts
 use crate::lacks::Lacks;
 use crate::micros::micros_after;
 use crate::shown::{Shown, shown_of, shown_of_due, subject_of, way_of};
+use audit_endpoints::is_sd;
 use audit_stats::Figures;
 use recording::Time;
-use someip_audit::{Audit, FellDue, Finding, is_sd};
+use someip_audit::{Audit, FellDue, Finding};
 use someip_reassembly::Reassembly;
 use someip_tables::Moment;
 use someip_tables::hashed::Origin;

@@ -1,5 +1,6 @@
 -- The subscriptions that stand, and the events that were told.
 use Rattle.std.specs.Prelude.{ℕ, ◌==◌, nat_lt, Bool, true, false, not, ◌&&◌, ◌||◌, if◌then◌else◌, Option, None, Some, is_some, refl}
+use Rattle.std.specs.Option.{is_none}
 use Rattle.std.specs.Coded.{Coded, code_by, coded×, coded_ℕ, coded_bool}
 use base.Stored.{coded_unit}
 use Rattle.std.specs.FinMap as finite
@@ -102,6 +103,22 @@ moves kind endpoint standing = false
 
 abbrev pub ends : ReceiverEntry → Receivers → Bool
 ends entry book = entry.ttl == 0 || moves entry.kind entry.endpoint (finite.get book.standing entry.key)
+
+-- an entry with a TTL above 0 begins a subscription: a Subscribe with an endpoint of which none stands, or one with another
+-- endpoint; and an Ack that finds none. A renewal begins nothing
+abbrev pub begins_at : SocketAddrV4 → Option (Lasting SocketAddrV4) → Bool
+begins_at endpoint None = true
+begins_at endpoint (Some lasting) = not (eq_by_cmp endpoint_cmp lasting.value endpoint)
+
+abbrev pub begins : EntryKind → Option SocketAddrV4 → Option (Lasting SocketAddrV4) → Bool
+begins Subscribe None standing = false
+begins Subscribe (Some endpoint) standing = begins_at endpoint standing
+begins Answer endpoint standing = is_none standing
+
+-- an entry begins a subscription or ends one: with a TTL of 0 it ends the one that stands, if one does
+abbrev pub begins_or_ends : ReceiverEntry → Subscriptions → Bool
+begins_or_ends entry standing =
+    if entry.ttl == 0 then is_some (finite.get standing entry.key) else begins entry.kind entry.endpoint (finite.get standing entry.key)
 
 -- ---- what ends several
 

@@ -10,9 +10,10 @@ ghost use Rattle.audit_sd.specs.declared.subscriptions.key.SubscriptionKey.{Subs
 ghost use Rattle.audit_sd.specs.declared.receivers.delivery.Delivery.{Delivery};
 ghost use Rattle.audit_sd.specs.declared.receivers.entry.ReceiverEntry.{ReceiverEntry};
 ghost use Rattle.audit_sd.specs.declared.receivers.finding.Finding.TheVariants.{Full, Unsubscribed};
+ghost use Rattle.audit_sd.specs.receivers.ReceiverPlaces.{endpoint_in};
 ghost use Rattle.audit_sd.specs.receivers.ReceiverRules.{goes_by};
 ghost use Rattle.audit_sd.specs.receivers.ReceiverTables.{Receivers, Subscriptions, after_entry, after_event};
-ghost use Rattle.audit_sd.specs.receivers.ReceiverTables.{ends, is_passed_over, is_subscribed, told_by};
+ghost use Rattle.audit_sd.specs.receivers.ReceiverTables.{begins_or_ends, ends, is_passed_over, is_subscribed, told_by};
 ghost use Rattle.audit_sd.specs.receivers.ReceiverTables.{told_of_event, without_expired};
 ghost use Rattle.audit_sd.specs.receivers.ReceiverHistories.{Event, Shown, book_after, book_of, shown_by};
 ghost use Rattle.audit_sd.specs.receivers.ReceiverHistories.{standing_in};
@@ -113,6 +114,39 @@ pub fn subscriptions_end()
     ensures another_client { (book : Receivers) → finite.get book.standing (subscription 2) ≡ None
         → ends (subscribe 2 40001 3) book ≡ false }
     ensures without_endpoint { (book : Receivers) → ends (record (subscribe 1 40000 3) { endpoint = None }) book ≡ false }
+{}
+
+/// Which entries begin a subscription or end one, by example: node 1 subscribed with its port 40000, node 2 did not. A
+/// renewal, its Ack, and a StopSubscribe of what does not stand do neither.
+pub fn subscriptions_begin_and_end()
+    ensures first { (standing : Subscriptions) → finite.get standing (subscription 2) ≡ None
+        → begins_or_ends (subscribe 2 40000 3) standing ≡ true }
+    ensures moved { (standing : Subscriptions) → finite.get standing (subscription 1) ≡ Some (stands 1 40000 3100)
+        → begins_or_ends (subscribe 1 40001 3) standing ≡ true }
+    ensures stopped { (standing : Subscriptions) → finite.get standing (subscription 1) ≡ Some (stands 1 40000 3100)
+        → begins_or_ends (subscribe 1 40000 0) standing ≡ true }
+    ensures nacked { (standing : Subscriptions) → finite.get standing (subscription 1) ≡ Some (stands 1 40000 3100)
+        → begins_or_ends (answer 1 0) standing ≡ true }
+    ensures acked_unseen { (standing : Subscriptions) → finite.get standing (subscription 2) ≡ None
+        → begins_or_ends (answer 2 3) standing ≡ true }
+    ensures renewed { (standing : Subscriptions) → finite.get standing (subscription 1) ≡ Some (stands 1 40000 3100)
+        → begins_or_ends (subscribe 1 40000 5) standing ≡ false }
+    ensures acked { (standing : Subscriptions) → finite.get standing (subscription 1) ≡ Some (stands 1 40000 3100)
+        → begins_or_ends (answer 1 5) standing ≡ false }
+    ensures stopped_unseen { (standing : Subscriptions) → finite.get standing (subscription 2) ≡ None
+        → begins_or_ends (subscribe 2 40000 0) standing ≡ false }
+    ensures nacked_unseen { (standing : Subscriptions) → finite.get standing (subscription 2) ≡ None
+        → begins_or_ends (answer 2 0) standing ≡ false }
+    ensures without_endpoint { (standing : Subscriptions)
+        → begins_or_ends (record (subscribe 2 40000 3) { endpoint = None }) standing ≡ false }
+{}
+
+/// Where an entry neither begins nor ends a subscription, each goes to where it went before: so no event between two
+/// that a receiver got went elsewhere.
+pub fn what_begins_and_ends_none_leaves_all()
+    ensures { (now : ℕ) (entry : ReceiverEntry) (book : Receivers) (key : SubscriptionKey)
+        → begins_or_ends entry book.standing ≡ false
+        → endpoint_in (finite.get (after_entry now entry book).standing key) ≡ endpoint_in (finite.get book.standing key) }
 {}
 
 /// A book that was never full, and dropped before each event what had expired, holds exactly the

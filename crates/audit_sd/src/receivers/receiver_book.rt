@@ -4,7 +4,7 @@ ghost use Rattle.std.specs.FinMap as finite;
 ghost use Rattle.someip_tables.specs.Deadlines.{deadline_after};
 ghost use Rattle.someip_tables.specs.Lastings.{NeedsMemory, expired};
 ghost use Rattle.someip_tables.specs.Waits.{HoldsFrom};
-ghost use Rattle.audit_sd.specs.receivers.ReceiverTables.{after_entry, after_event, ends, is_passed_over, is_stored, is_subscribed};
+ghost use Rattle.audit_sd.specs.receivers.ReceiverTables.{after_entry, after_event, begins_or_ends, ends, is_passed_over, is_stored, is_subscribed};
 ghost use Rattle.audit_sd.specs.receivers.ReceiverTables.{told_by, told_of_event, without, without_expired};
 ghost use Rattle.audit_sd.specs.receivers.ReceiverTables.{without_offer};
 
@@ -12,7 +12,7 @@ use crate::receivers::delivery::Delivery;
 use crate::receivers::entry::{ReceiverEntry, WithdrawnOffer};
 use crate::receivers::finding::Finding;
 use crate::receivers::standing::Standing;
-use crate::receivers::steps::{acknowledge, is_silent, may_hold, moves, subscribe};
+use crate::receivers::steps::{acknowledge, begins, is_silent, may_hold, moves, subscribe};
 use crate::receivers::told_events::ToldEvents;
 use crate::subscriptions::{EntryKind, SubscriptionKey};
 use someip_tables::Moment;
@@ -141,6 +141,19 @@ impl ReceiverBook {
         ensures { result ≡ ends entry.now self.now }
     {
         entry.ttl == 0 || moves(entry, self.standing.endpoint_of(&entry.key))
+    }
+
+    /// Whether an entry begins a subscription or ends one: a Subscribe with an endpoint of which none stands, or one
+    /// with another endpoint; an Ack that finds none; a StopSubscribe or a Nack of one that stands. A renewal does
+    /// neither. It is asked for before [`ReceiverBook::saw`] takes note of the entry.
+    pub fn begins_or_ends(&self, entry: &ReceiverEntry) -> bool
+        ensures { result ≡ begins_or_ends entry.now self.now.standing }
+    {
+        if entry.ttl == 0 {
+            self.standing.contains(&entry.key)
+        } else {
+            begins(entry, self.standing.endpoint_of(&entry.key))
+        }
     }
 
     /// Whether an event may go to its endpoint by a subscription. The book is as it was.

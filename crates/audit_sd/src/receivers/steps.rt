@@ -10,7 +10,7 @@ ghost use Rattle.someip_tables.specs.hashed.Rooms.{may_hold};
 ghost use Rattle.audit_sd.specs.subscriptions.SubscriptionKeys.{subscription_cmp};
 ghost use Rattle.audit_sd.specs.subscriptions.SubscribeRules.{is_of};
 ghost use Rattle.audit_sd.specs.receivers.ReceiverRules.{goes_by, is_to, standing_from};
-ghost use Rattle.audit_sd.specs.receivers.ReceiverTables.{acked, is_subscribed, moves};
+ghost use Rattle.audit_sd.specs.receivers.ReceiverTables.{acked, begins, is_subscribed, moves};
 ghost use Rattle.audit_sd.specs.receivers.ReceiverPlaces.{endpoint_in};
 
 use crate::receivers::delivery::Delivery;
@@ -125,5 +125,19 @@ pub(crate) fn moves(entry: &ReceiverEntry, standing: Option<SocketAddrV4>) -> bo
             &standing, &endpoint,
         ),
         _ => false,
+    }
+}
+
+/// Whether an entry with a TTL above 0 begins a subscription, by the endpoint of the one that stands.
+pub(crate) fn begins(entry: &ReceiverEntry, standing: Option<SocketAddrV4>) -> bool
+    ensures { (lasting : Option (Lasting SocketAddrV4)) → standing ≡ endpoint_in lasting
+        → result ≡ begins entry.now.kind entry.now.endpoint lasting }
+{
+    match (entry.kind, entry.endpoint, standing) {
+        (EntryKind::Subscribe, None, _) => false,
+        (EntryKind::Subscribe, Some(endpoint), Some(standing)) => !is_same_endpoint(
+            &standing, &endpoint,
+        ),
+        (_, _, standing) => standing.is_none(),
     }
 }

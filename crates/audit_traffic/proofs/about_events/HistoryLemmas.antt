@@ -90,7 +90,7 @@ full_stays_after event book is = cases (event.session == 0) (may_take book.limit
 
 full_stays : (shown : Shown) (book : Events) → book.told_full ≡ true → (book_after shown book).told_full ≡ true
 full_stays (Came event) book is = full_stays_after event book is
-full_stays (Changed client server) book is = is
+full_stays (Changed client server service) book is = is
 full_stays (Withdrawn server service) book is = is
 full_stays (BeganAgain address) book is = is
 
@@ -123,9 +123,9 @@ kept limit (shown ∷ earlier) fits flow = by shown fits (kept limit earlier (no
     by : (one : Shown) → (book_after one (book_of limit earlier)).told_full ≡ false → ((f : EventFlow) → finite.get (book_of limit earlier).flows f ≡ option_map kept_of (since_in earlier f))
         → finite.get (book_after one (book_of limit earlier)).flows flow ≡ option_map kept_of (since_after one flow (since_in earlier flow))
     by (Came event) still before = by_event event (event.session == 0) (may_take (book_of limit earlier).limit event.flow (book_of limit earlier).flows) still before
-    by (Changed client server) still before =
-        get-changed flows_total exact_flows (λ f last. if is_between client server f then disturbed last else last) (book_of limit earlier).flows flow
-        ∙ get-disturbed (is_between client server) (book_of limit earlier).flows flow (since_in earlier flow) (before flow)
+    by (Changed client server service) still before =
+        get-changed flows_total exact_flows (λ f last. if is_between client server service f then disturbed last else last) (book_of limit earlier).flows flow
+        ∙ get-disturbed (is_between client server service) (book_of limit earlier).flows flow (since_in earlier flow) (before flow)
     by (Withdrawn server service) still before =
         get-changed flows_total exact_flows (λ f last. if is_of_service server service f then disturbed last else last) (book_of limit earlier).flows flow
         ∙ get-disturbed (is_of_service server service) (book_of limit earlier).flows flow (since_in earlier flow) (before flow)

@@ -93,11 +93,11 @@ goes_on flow last (Came event) newer since left a = cases (event.session == 0) r
         (since, ap Some is, plain flow last (Came event) newer since tt (λ s some other. absurd (not_self event.flow flow (same_by_test exact_flows flow event.flow tie) other)) a)
     cases false z false tie true other = (since_got event.session since, refl, more_got flow last event newer since (eqb-false event.session 0 z) other a)
     cases false z false tie false other = (since, refl, plain flow last (Came event) newer since tt (λ s some is. absurd (cc)) a)
-goes_on flow last (Changed client server) newer since left a = cases (is_between client server flow) refl
+goes_on flow last (Changed client server service) newer since left a = cases (is_between client server service flow) refl
   where
-    cases : (b : Bool) → is_between client server flow ≡ b → Goes flow last (Changed client server ∷ newer) (if b then Some (since_disturbed since) else Some since)
-    cases true is = (since_disturbed since, refl, now_disturbed flow last (Changed client server) newer since (λ none. cc) (λ s. tt) a)
-    cases false is = (since, refl, plain flow last (Changed client server) newer since is (λ s. tt) a)
+    cases : (b : Bool) → is_between client server service flow ≡ b → Goes flow last (Changed client server service ∷ newer) (if b then Some (since_disturbed since) else Some since)
+    cases true is = (since_disturbed since, refl, now_disturbed flow last (Changed client server service) newer since (λ none. cc) (λ s. tt) a)
+    cases false is = (since, refl, plain flow last (Changed client server service) newer since is (λ s. tt) a)
 goes_on flow last (Withdrawn server service) newer since left a = cases (is_of_service server service flow) refl
   where
     cases : (b : Bool) → is_of_service server service flow ≡ b → Goes flow last (Withdrawn server service ∷ newer) (if b then Some (since_disturbed since) else Some since)
@@ -162,7 +162,7 @@ leaving flow last (Came event) = cases (eq_by_cmp flow_cmp event.flow flow) refl
     cases true tie false z true l d d_is = Stays (λ own. inr (inl (eqb-true event.session last l)))
     cases true tie false z false l true d = Stays (λ own. inr (inr d))
     cases true tie false z false l false d = Renews event refl (same_by_test exact_flows event.flow flow tie) (eqb-false event.session 0 z) (eqb-false event.session last l) d
-leaving flow last (Changed client server) = Stays tt
+leaving flow last (Changed client server service) = Stays tt
 leaving flow last (Withdrawn server service) = Stays tt
 leaving flow last (BeganAgain address) = cases (is_at address flow) refl
   where
@@ -225,7 +225,7 @@ known_last flow (one ∷ earlier) since is = by (since_in earlier flow) refl (kn
             new_last event own (eqb-false event.session 0 z) (is_new earlier flow event own None none (λ b some. absurd (cc))) one_is
         cases false z false tie true e = absurd (cc)
         cases false z false tie false e = absurd (cc)
-    from_none (Changed client server) one_is none known = cases (is_between client server flow) known
+    from_none (Changed client server service) one_is none known = cases (is_between client server service flow) known
       where
         cases : (b : Bool) → (if b then option_map since_disturbed None else None) ≡ Some since → Found flow (one ∷ earlier) since
         cases true e = absurd (cc)

@@ -191,27 +191,37 @@ module _ (client address : Ipv4Addr) where
           let group : is_group address ≡ true = ap is_group (same_by_test exact_addresses address all_groups tie) in
           absurd (cc)
 
-at_routes : (client server : Ipv4Addr) (flow : EventFlow)
-    → (eq_by_cmp route_cmp (route_of flow) (record { server = server; receiver = client }) || eq_by_cmp route_cmp (route_of flow) (record { server = server; receiver = all_groups })) ≡ is_between client server flow
-at_routes client server flow =
-    ap (λ b. b || eq_by_cmp route_cmp (route_of flow) (record { server = server; receiver = all_groups })) (then_eq (address_cmp flow.sender.ip server) (address_cmp (reached flow.receiver.ip) client))
-    ∙ ap (λ b. (is_eq (address_cmp flow.sender.ip server) && is_eq (address_cmp (reached flow.receiver.ip) client)) || b) (then_eq (address_cmp flow.sender.ip server) (address_cmp (reached flow.receiver.ip) all_groups))
-    ∙ both (is_eq (address_cmp flow.sender.ip server)) _ _
-    ∙ ap (λ b. is_eq (address_cmp flow.sender.ip server) && b) (reached_by client flow.receiver.ip (is_group flow.receiver.ip) refl)
+at_routes : (client server : Ipv4Addr) (service : ℕ) (flow : EventFlow)
+    → (eq_by_cmp route_cmp (route_of flow) (record { server = server; service = service; receiver = client }) || eq_by_cmp route_cmp (route_of flow) (record { server = server; service = service; receiver = all_groups })) ≡ is_between client server service flow
+at_routes client server service flow =
+    ap (λ b. b || eq_by_cmp route_cmp (route_of flow) (record { server = server; service = service; receiver = all_groups })) (at client)
+    ∙ ap (λ b. (is_of_service server service flow && is_eq (address_cmp (reached flow.receiver.ip) client)) || b) (at all_groups)
+    ∙ both (is_of_service server service flow) _ _
+    ∙ ap (λ b. is_of_service server service flow && b) (reached_by client flow.receiver.ip (is_group flow.receiver.ip) refl)
   where
     both : (s a b : Bool) → ((s && a) || (s && b)) ≡ (s && (a || b))
     both true a b = refl
     both false a b = refl
 
-pub changed_is : (client server : Ipv4Addr) (m : Flows)
-    → each_changed (once_disturbed_at route_cmp route_of (record { server = server; receiver = all_groups })) (each_changed (once_disturbed_at route_cmp route_of (record { server = server; receiver = client })) m)
-    ≡ each_changed (once_changed client server) m
-changed_is client server m =
+    three : (s n r : Bool) → (s && (n && r)) ≡ ((s && n) && r)
+    three true n r = refl
+    three false n r = refl
+
+    at : (address : Ipv4Addr) → eq_by_cmp route_cmp (route_of flow) (record { server = server; service = service; receiver = address }) ≡ (is_of_service server service flow && is_eq (address_cmp (reached flow.receiver.ip) address))
+    at address =
+        then_eq (address_cmp flow.sender.ip server) (ordering_then (nat_cmp flow.service service) (address_cmp (reached flow.receiver.ip) address))
+        ∙ ap (λ b. is_eq (address_cmp flow.sender.ip server) && b) (then_eq (nat_cmp flow.service service) (address_cmp (reached flow.receiver.ip) address) ∙ ap (λ b. b && is_eq (address_cmp (reached flow.receiver.ip) address)) (number_eq flow.service service))
+        ∙ three (is_eq (address_cmp flow.sender.ip server)) (flow.service == service) (is_eq (address_cmp (reached flow.receiver.ip) address))
+
+pub changed_is : (client server : Ipv4Addr) (service : ℕ) (m : Flows)
+    → each_changed (once_disturbed_at route_cmp route_of (record { server = server; service = service; receiver = all_groups })) (each_changed (once_disturbed_at route_cmp route_of (record { server = server; service = service; receiver = client })) m)
+    ≡ each_changed (once_changed client server service) m
+changed_is client server service m =
     same_map flows_total exact_flows _ _ (λ flow.
-    get-changed flows_total exact_flows (once_disturbed_at route_cmp route_of (record { server = server; receiver = all_groups })) (each_changed (once_disturbed_at route_cmp route_of (record { server = server; receiver = client })) m) flow
-    ∙ ap (option_map (once_disturbed_at route_cmp route_of (record { server = server; receiver = all_groups }) flow)) (get-changed flows_total exact_flows (once_disturbed_at route_cmp route_of (record { server = server; receiver = client })) m flow)
-    ∙ cases (eq_by_cmp route_cmp (route_of flow) (record { server = server; receiver = client })) (eq_by_cmp route_cmp (route_of flow) (record { server = server; receiver = all_groups })) (is_between client server flow) (at_routes client server flow) (get m flow)
-    ∙ sym (get-changed flows_total exact_flows (once_changed client server) m flow))
+    get-changed flows_total exact_flows (once_disturbed_at route_cmp route_of (record { server = server; service = service; receiver = all_groups })) (each_changed (once_disturbed_at route_cmp route_of (record { server = server; service = service; receiver = client })) m) flow
+    ∙ ap (option_map (once_disturbed_at route_cmp route_of (record { server = server; service = service; receiver = all_groups }) flow)) (get-changed flows_total exact_flows (once_disturbed_at route_cmp route_of (record { server = server; service = service; receiver = client })) m flow)
+    ∙ cases (eq_by_cmp route_cmp (route_of flow) (record { server = server; service = service; receiver = client })) (eq_by_cmp route_cmp (route_of flow) (record { server = server; service = service; receiver = all_groups })) (is_between client server service flow) (at_routes client server service flow) (get m flow)
+    ∙ sym (get-changed flows_total exact_flows (once_changed client server service) m flow))
   where
     cases : (a b c : Bool) → (a || b) ≡ c → (v : Option LastEvent) → option_map (λ l. cond b (disturbed l) l) (option_map (λ l. cond a (disturbed l) l) v) ≡ option_map (λ l. cond c (disturbed l) l) v
     cases a b c is None = refl

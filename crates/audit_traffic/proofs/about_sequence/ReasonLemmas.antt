@@ -39,7 +39,7 @@ abbrev Made : Counting → ℕ → MissingEvent → Awaited → ℕ → Shown �
 Made counting ms key awaited at (Came numbers event) earlier before =
     ((event.session == 0) ≡ false) × Skips counting earlier numbers event key × (unless_it_came (counted_event counting event) key before ≡ None)
     × (record { shown_by = event.flow; numbers = numbers; until = at + ms } ≡ awaited)
-Made counting ms key awaited at (Changed client server) earlier before = ⊥
+Made counting ms key awaited at (Changed client server service) earlier before = ⊥
 Made counting ms key awaited at (Withdrawn server service) earlier before = ⊥
 Made counting ms key awaited at (BeganAgain address) earlier before = ⊥
 
@@ -88,7 +88,7 @@ module _ (counting : Counting) (ms : ℕ) (key : MissingEvent) (awaited : Awaite
 
 changed : (counting : Counting) (ms : ℕ) (key : MissingEvent) (awaited : Awaited) (at : ℕ) (one : Shown) (earlier : List Step) (before : Option Awaited)
     → after_step counting at ms one earlier key before ≡ Some awaited → Change counting ms key awaited at one earlier before
-changed counting ms key awaited at (Changed client server) earlier before is = left is refl
+changed counting ms key awaited at (Changed client server service) earlier before is = left is refl
 changed counting ms key awaited at (Withdrawn server service) earlier before is = left is refl
 changed counting ms key awaited at (BeganAgain address) earlier before is = left is refl
 changed counting ms key awaited at (Came numbers event) earlier before is = cases (event.session == 0) refl is
@@ -117,7 +117,7 @@ still at ms numbers flow named (Some (shown.Gap session expected)) key awaited =
 
 unchanged : (counting : Counting) (ms : ℕ) (key : MissingEvent) (awaited : Awaited) (at : ℕ) (one : Shown) (earlier : List Step) → leaves counting key one ≡ true
     → after_step counting at ms one earlier key (Some awaited) ≡ Some awaited
-unchanged counting ms key awaited at (Changed client server) earlier is = refl
+unchanged counting ms key awaited at (Changed client server service) earlier is = refl
 unchanged counting ms key awaited at (Withdrawn server service) earlier is = refl
 unchanged counting ms key awaited at (BeganAgain address) earlier is = refl
 unchanged counting ms key awaited at (Came numbers event) earlier is = cases (event.session == 0) (eq_by_cmp missing_cmp key (missing_of (counted counting event.flow) event.session)) is
@@ -142,7 +142,7 @@ missing_is counting ms key awaited (step ∷ earlier) is =
     by (changed counting ms key awaited step.at step.shown earlier (unless_lost step.at (missing_in counting ms earlier key)) is) (missing_is counting ms key awaited earlier)
   where
     begun : (one : Shown) → step.shown ≡ one → Made counting ms key awaited step.at one earlier (unless_lost step.at (missing_in counting ms earlier key)) → IsMissing counting ms key awaited (step ∷ earlier)
-    begun (Changed client server) same it = absurd it
+    begun (Changed client server service) same it = absurd it
     begun (Withdrawn server service) same it = absurd it
     begun (BeganAgain address) same it = absurd it
     begun (Came numbers event) same it =

@@ -38,7 +38,7 @@ counting_after now (Came numbers event) book = cases (event.session == 0)
         }).counting ≡ book.counting
     cases true = refl
     cases false = refl
-counting_after now (Changed client server) book = refl
+counting_after now (Changed client server service) book = refl
 counting_after now (Withdrawn server service) book = refl
 counting_after now (BeganAgain address) book = refl
 
@@ -56,7 +56,7 @@ time_after now (Came numbers event) book = cases (event.session == 0)
         }).gaps.overtake_ms ≡ book.gaps.overtake_ms
     cases true = refl
     cases false = after_time now numbers event.flow (counted_event book.counting event) (events.told_by (counted_event book.counting event) book.events) book.gaps
-time_after now (Changed client server) book = refl
+time_after now (Changed client server service) book = refl
 time_after now (Withdrawn server service) book = refl
 time_after now (BeganAgain address) book = refl
 
@@ -86,7 +86,9 @@ events_is rules (step ∷ earlier) = by (events_is rules earlier) step.shown
         came numbers event (event.session == 0) refl
         ∙ ap (λ c. events.after_event (counted_event c event) (book_of rules earlier).events) (counting_is rules earlier)
         ∙ ap (events.after_event (counted_event rules.counting event)) before
-    by before (Changed client server) = ap (events.after_change client server) before
+    by before (Changed client server service) =
+        ap (λ c. events.after_change client server (counted_service c service) (book_of rules earlier).events) (counting_is rules earlier)
+        ∙ ap (events.after_change client server (counted_service rules.counting service)) before
     by before (Withdrawn server service) =
         ap (λ c. events.after_withdrawal server (counted_service c service) (book_of rules earlier).events) (counting_is rules earlier)
         ∙ ap (events.after_withdrawal server (counted_service rules.counting service)) before
@@ -104,7 +106,7 @@ gaps_full now (Came numbers event) book is = cases (event.session == 0)
         }).gaps.told_full ≡ true
     cases true = is
     cases false = after_full now numbers event.flow (counted_event book.counting event) (events.told_by (counted_event book.counting event) book.events) book.gaps is
-gaps_full now (Changed client server) book is = is
+gaps_full now (Changed client server service) book is = is
 gaps_full now (Withdrawn server service) book is = is
 gaps_full now (BeganAgain address) book is = is
 
@@ -181,7 +183,7 @@ missing rules (step ∷ earlier) key e g =
         → finite.get (book_after step.at one book).gaps.waiting key
         ≡ after_step rules.counting step.at rules.overtake_ms one earlier key (unless_lost step.at (missing_in rules.counting rules.overtake_ms earlier key))
     by before (Came numbers event) fits full = came before numbers event (event.session == 0) fits full
-    by before (Changed client server) fits full = before
+    by before (Changed client server service) fits full = before
     by before (Withdrawn server service) fits full = before
     by before (BeganAgain address) fits full = before
 

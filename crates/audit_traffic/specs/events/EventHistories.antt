@@ -15,15 +15,15 @@ use Rattle.audit_traffic.specs.events.FlowKeys.{flow_cmp}
 use Rattle.audit_traffic.specs.events.EventRules.{ahead, is_at, is_behind, is_between, is_of_service, is_other, is_skipped, nearer}
 use Rattle.audit_traffic.specs.events.EventTables.{Events, after_change, after_event, after_withdrawal, without}
 
--- an event came, a subscription of a client at a server changed, a server withdrew an offer of a service, or an address began
+-- an event came, a subscription of a client to a service at a server began or ended, a server withdrew an offer of a service, or an address began
 -- again
 pub data Shown : Type 0 where
   Came : Notification → Shown
-  Changed : Ipv4Addr → Ipv4Addr → Shown
+  Changed : Ipv4Addr → Ipv4Addr → ℕ → Shown
   Withdrawn : Ipv4Addr → ℕ → Shown
   BeganAgain : Ipv4Addr → Shown
 
--- the session of the last event of a flow; whether since then a subscription of its receiver at its sender changed or an
+-- the session of the last event of a flow; whether since then a subscription of its receiver to its service at its sender began or ended or an
 -- offer of its service was withdrawn; and the sessions that other receivers got since then of the same event
 pub record Since : Type 0 where
   pub session : ℕ
@@ -53,7 +53,7 @@ since_after (Came event) flow before =
     else if eq_by_cmp flow_cmp flow event.flow then Some (since_event event.session before)
     else if is_other event.flow flow then option_map (since_got event.session) before
     else before
-since_after (Changed client server) flow before = if is_between client server flow then option_map since_disturbed before else before
+since_after (Changed client server service) flow before = if is_between client server service flow then option_map since_disturbed before else before
 since_after (Withdrawn server service) flow before = if is_of_service server service flow then option_map since_disturbed before else before
 since_after (BeganAgain address) flow before = if is_at address flow then None else before
 
@@ -93,7 +93,7 @@ kept_of since = record { session = since.session; is_disturbed = since.is_distur
 -- once something was shown
 abbrev pub book_after : Shown → Events → Events
 book_after (Came event) book = after_event event book
-book_after (Changed client server) book = after_change client server book
+book_after (Changed client server service) book = after_change client server service book
 book_after (Withdrawn server service) book = after_withdrawal server service book
 book_after (BeganAgain address) book = without address book
 

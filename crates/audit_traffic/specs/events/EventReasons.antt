@@ -15,21 +15,21 @@ Each P (shown ∷ more) = P shown × Each P more
 -- it is no event of a flow with another session, unless that is behind, and no reboot of the flow's sender or receiver
 abbrev pub LeavesLast : EventFlow → ℕ → Shown → Type 0
 LeavesLast flow last (Came event) = event.flow ≡ flow → (event.session ≡ 0) ⊎ ((event.session ≡ last) ⊎ (is_behind last event.session ≡ true))
-LeavesLast flow last (Changed client server) = Unit {0}
+LeavesLast flow last (Changed client server service) = Unit {0}
 LeavesLast flow last (Withdrawn server service) = Unit {0}
 LeavesLast flow last (BeganAgain address) = is_at address flow ≡ false
 
--- it changes no subscription by which a flow goes, and withdraws no offer of its service
+-- it begins and ends no subscription by which a flow goes, and withdraws no offer of its service
 abbrev pub LeavesReceivers : EventFlow → Shown → Type 0
 LeavesReceivers flow (Came event) = Unit {0}
-LeavesReceivers flow (Changed client server) = is_between client server flow ≡ false
+LeavesReceivers flow (Changed client server service) = is_between client server service flow ≡ false
 LeavesReceivers flow (Withdrawn server service) = is_of_service server service flow ≡ false
 LeavesReceivers flow (BeganAgain address) = Unit {0}
 
 -- it is no event of another receiver, of the same event of the same sender, with a session between the last one and another
 abbrev pub LeavesSkipped : EventFlow → ℕ → ℕ → Shown → Type 0
 LeavesSkipped flow last session (Came event) = event.session ≢ 0 → is_other event.flow flow ≡ true → is_skipped last session event.session ≡ false
-LeavesSkipped flow last session (Changed client server) = Unit {0}
+LeavesSkipped flow last session (Changed client server service) = Unit {0}
 LeavesSkipped flow last session (Withdrawn server service) = Unit {0}
 LeavesSkipped flow last session (BeganAgain address) = Unit {0}
 
@@ -49,7 +49,7 @@ IsBehind event shown =
     (last : ℕ) × (newer : List Shown) × IsLast event.flow last newer shown × (event.session ≢ 0) × (event.session ≢ last) × (is_behind last event.session ≡ true)
 
 -- an event has another session S than the last one of its flow, is not behind it, and has not the next one, E; and since the last one no
--- subscription by which the flow goes changed, no offer of its service was withdrawn, and no other receiver got a session
+-- subscription by which the flow goes began or ended, no offer of its service was withdrawn, and no other receiver got a session
 -- between
 abbrev pub IsGap : ℕ → ℕ → Notification → List Shown → Type 0
 IsGap session expected event shown =

@@ -49,18 +49,18 @@ is_other flow other =
 abbrev pub is_group : Ipv4Addr → Bool
 is_group address = nat_le 224 (get_or (ipv4_octets address) 0 0) && nat_lt (get_or (ipv4_octets address) 0 0) 240
 
--- what changes a subscription of a client may change who gets what goes to an address: the client's, or a multicast group's,
+-- a subscription of a client that begins or ends may change who gets what goes to an address: the client's, or a multicast group's,
 -- which the client may be in
 abbrev pub may_reach : Ipv4Addr → Ipv4Addr → Bool
 may_reach client address = eq_by_cmp address_cmp address client || is_group address
 
--- what changes a subscription of a client at a server may change who gets a flow: it is from the server
-abbrev pub is_between : Ipv4Addr → Ipv4Addr → EventFlow → Bool
-is_between client server flow = eq_by_cmp address_cmp flow.sender.ip server && may_reach client flow.receiver.ip
-
 -- a flow is of a service at an address
 abbrev pub is_of_service : Ipv4Addr → ℕ → EventFlow → Bool
 is_of_service server service flow = eq_by_cmp address_cmp flow.sender.ip server && (flow.service == service)
+
+-- a subscription of a client to a service at a server that begins or ends may change who gets a flow: it is of that service
+abbrev pub is_between : Ipv4Addr → Ipv4Addr → ℕ → EventFlow → Bool
+is_between client server service flow = is_of_service server service flow && may_reach client flow.receiver.ip
 
 -- a flow is from an address or to it
 abbrev pub is_at : Ipv4Addr → EventFlow → Bool

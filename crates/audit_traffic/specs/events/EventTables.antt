@@ -59,9 +59,9 @@ after_event event book =
     else if may_take book.limit event.flow book.flows then record book { flows = flows_after event book.flows }
     else record book { told_full = true }
 
--- once a subscription of a client at a server changed
-abbrev pub after_change : Ipv4Addr → Ipv4Addr → Events → Events
-after_change client server book = record book { flows = each_changed (λ flow last. if is_between client server flow then disturbed last else last) book.flows }
+-- once a subscription of a client to a service at a server began or ended
+abbrev pub after_change : Ipv4Addr → Ipv4Addr → ℕ → Events → Events
+after_change client server service book = record book { flows = each_changed (λ flow last. if is_between client server service flow then disturbed last else last) book.flows }
 
 -- once a server withdrew an offer of a service
 abbrev pub after_withdrawal : Ipv4Addr → ℕ → Events → Events

@@ -59,10 +59,10 @@ pub record AreFlows (groups : Groups) : Type 0 where
 abbrev pub changed_by : (EventFlow → LastEvent → LastEvent) → EventSource → Receiver → Receiver
 changed_by change source receiver = record receiver { last = change (flow_to source receiver.endpoint) receiver.last }
 
--- the last event of a flow once a subscription of a client at a server changed, and once a server withdrew an offer of a
+-- the last event of a flow once a subscription of a client to a service at a server began or ended, and once a server withdrew an offer of a
 -- service
-abbrev pub once_changed : Ipv4Addr → Ipv4Addr → EventFlow → LastEvent → LastEvent
-once_changed client server flow last = if is_between client server flow then disturbed last else last
+abbrev pub once_changed : Ipv4Addr → Ipv4Addr → ℕ → EventFlow → LastEvent → LastEvent
+once_changed client server service flow last = if is_between client server service flow then disturbed last else last
 
 abbrev pub once_withdrawn : Ipv4Addr → ℕ → EventFlow → LastEvent → LastEvent
 once_withdrawn server service flow last = if is_of_service server service flow then disturbed last else last

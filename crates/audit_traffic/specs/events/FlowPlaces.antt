@@ -13,9 +13,9 @@ use Rattle.audit_traffic.specs.declared.events.route.Route.{Route}
 use Rattle.audit_traffic.specs.events.EventRules.{disturbed, is_at, is_group}
 use Rattle.audit_traffic.specs.events.EventTables.{Flows}
 
--- by server, and then by receiver or service
+-- by server, then by service, and a route then by receiver
 abbrev pub route_cmp : Route → Route → Ordering
-route_cmp a b = ordering_then (address_cmp a.server b.server) (address_cmp a.receiver b.receiver)
+route_cmp a b = ordering_then (address_cmp a.server b.server) (ordering_then (nat_cmp a.service b.service) (address_cmp a.receiver b.receiver))
 
 abbrev pub offering_cmp : Offering → Offering → Ordering
 offering_cmp a b = ordering_then (address_cmp a.server b.server) (nat_cmp a.service b.service)
@@ -27,9 +27,9 @@ all_groups = record { octets = 224 ∷ 0 ∷ 0 ∷ 0 ∷ [] }
 abbrev pub reached : Ipv4Addr → Ipv4Addr
 reached address = if is_group address then all_groups else address
 
--- the addresses between which a flow goes, and its service at its sender's address
+-- the addresses between which a flow goes and its service, and its service at its sender's address
 abbrev pub route_of : EventFlow → Route
-route_of flow = record { server = flow.sender.ip; receiver = reached flow.receiver.ip }
+route_of flow = record { server = flow.sender.ip; service = flow.service; receiver = reached flow.receiver.ip }
 
 abbrev pub offering_of : EventFlow → Offering
 offering_of flow = record { server = flow.sender.ip; service = flow.service }

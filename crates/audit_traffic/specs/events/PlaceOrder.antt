@@ -7,7 +7,9 @@ use Rattle.someip_tables.specs.EndpointOrder.{addresses}
 use Rattle.audit_traffic.specs.events.FlowPlaces.{offering_cmp, route_cmp}
 
 pub routes : KeyOrder route_cmp
-routes = by_parts (by_pair addresses addresses) (λ r. (r.server, r.receiver)) (λ p. record { server = p.0; receiver = p.1 }) (λ _. refl)
+routes =
+    by_parts (by_pair addresses (by_pair numbers addresses)) (λ r. (r.server, (r.service, r.receiver)))
+    (λ p. record { server = p.0; service = p.1.0; receiver = p.1.1 }) (λ _. refl)
 
 pub offerings : KeyOrder offering_cmp
 offerings = by_parts (by_pair addresses numbers) (λ o. (o.server, o.service)) (λ p. record { server = p.0; service = p.1 }) (λ _. refl)

@@ -23,11 +23,11 @@ use Rattle.audit_traffic.specs.gaps.MissingKeys.{missing_cmp, missing_of}
 use Rattle.audit_traffic.specs.sequence.CountedFlows.{counted, counted_event, counted_service}
 use Rattle.audit_traffic.specs.sequence.Sequences.{Sequence, after_change, after_event, after_withdrawal, gap_of, new_sequence, told_behind, without}
 
--- an event came in the datagram with these numbers, a subscription of a client at a server changed, a server withdrew an offer
+-- an event came in the datagram with these numbers, a subscription of a client to a service at a server began or ended, a server withdrew an offer
 -- of a service, or an address began again
 pub data Shown : Type 0 where
   Came : Numbers → Notification → Shown
-  Changed : Ipv4Addr → Ipv4Addr → Shown
+  Changed : Ipv4Addr → Ipv4Addr → ℕ → Shown
   Withdrawn : Ipv4Addr → ℕ → Shown
   BeganAgain : Ipv4Addr → Shown
 
@@ -39,7 +39,7 @@ pub record Step : Type 0 where
 -- what it says of the flows that count
 abbrev pub of_flows : Counting → Shown → flows.Shown
 of_flows counting (Came numbers event) = flows.Came (counted_event counting event)
-of_flows counting (Changed client server) = flows.Changed client server
+of_flows counting (Changed client server service) = flows.Changed client server (counted_service counting service)
 of_flows counting (Withdrawn server service) = flows.Withdrawn server (counted_service counting service)
 of_flows counting (BeganAgain address) = flows.BeganAgain address
 
@@ -84,7 +84,7 @@ after_came counting now overtake_ms numbers event earlier key before =
 
 abbrev pub after_step : Counting → ℕ → ℕ → Shown → List Step → MissingEvent → Option Awaited → Option Awaited
 after_step counting now overtake_ms (Came numbers event) earlier key before = after_came counting now overtake_ms numbers event earlier key before
-after_step counting now overtake_ms (Changed client server) earlier key before = before
+after_step counting now overtake_ms (Changed client server service) earlier key before = before
 after_step counting now overtake_ms (Withdrawn server service) earlier key before = before
 after_step counting now overtake_ms (BeganAgain address) earlier key before = before
 
@@ -117,7 +117,7 @@ told_in counting overtake_ms earlier now numbers event =
 -- once something was shown
 abbrev pub book_after : ℕ → Shown → Sequence → Sequence
 book_after now (Came numbers event) book = after_event now numbers event book
-book_after now (Changed client server) book = after_change client server book
+book_after now (Changed client server service) book = after_change client server service book
 book_after now (Withdrawn server service) book = after_withdrawal server service book
 book_after now (BeganAgain address) book = without address book
 

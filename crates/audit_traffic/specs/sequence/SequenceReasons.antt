@@ -18,7 +18,7 @@ use Rattle.audit_traffic.specs.sequence.SequenceHistories.{BeganAgain, Came, Cha
 -- a step leaves a session missing: it is no event that has it
 abbrev pub leaves : Counting → MissingEvent → Shown → Bool
 leaves counting key (Came numbers event) = (event.session == 0) || not (eq_by_cmp missing_cmp key (missing_of (counted counting event.flow) event.session))
-leaves counting key (Changed client server) = true
+leaves counting key (Changed client server service) = true
 leaves counting key (Withdrawn server service) = true
 leaves counting key (BeganAgain address) = true
 

@@ -102,9 +102,9 @@ IsLeft now numbers event old new =
 
 -- ---- what else changes it
 
--- once a subscription of a client at a server changed, a server withdrew an offer of a service, or an address began again
-abbrev pub after_change : Ipv4Addr → Ipv4Addr → Sequence → Sequence
-after_change client server book = record book { events = events.after_change client server book.events }
+-- once a subscription of a client to a service at a server began or ended, a server withdrew an offer of a service, or an address began again
+abbrev pub after_change : Ipv4Addr → Ipv4Addr → ℕ → Sequence → Sequence
+after_change client server service book = record book { events = events.after_change client server (counted_service book.counting service) book.events }
 
 abbrev pub after_withdrawal : Ipv4Addr → ℕ → Sequence → Sequence
 after_withdrawal server service book = record book { events = events.after_withdrawal server (counted_service book.counting service) book.events }

@@ -79,14 +79,14 @@ impl EventBook {
         Ok(None)
     }
 
-    /// Takes note that a subscription of a client at a server changed: by a Subscribe, a StopSubscribe,
-    /// an Ack or a Nack, or because it expired. No gap is told of the next event from the server to that
-    /// client, or to a multicast group. It takes no memory, and looks at these flows alone, unless memory was
-    /// refused before.
-    pub fn disturb(&mut self, client: Ipv4Addr, server: Ipv4Addr)
-        ensures { self.new ≡ after_change client server self.old }
+    /// Takes note that a subscription of a client to a service at a server began, by a Subscribe or an Ack, or
+    /// ended, by a StopSubscribe or a Nack, or because it expired. No gap is told of the next event of that
+    /// service from the server to that client, or to a multicast group. It takes no memory, and looks at these
+    /// flows alone, unless memory was refused before.
+    pub fn disturb(&mut self, client: Ipv4Addr, server: Ipv4Addr, service: u16)
+        ensures { self.new ≡ after_change client server service self.old }
     {
-        self.flows.disturb(client, server);
+        self.flows.disturb(client, server, service);
     }
 
     /// Takes note that a server withdrew an offer of a service by a StopOffer: no gap is told of the next

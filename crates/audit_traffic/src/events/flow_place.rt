@@ -26,6 +26,7 @@ impl FlowPlace for Route {
     fn of_flow(flow: &EventFlow) -> Route {
         Route {
             server: *flow.sender.ip(),
+            service: flow.service,
             receiver: reached(flow.receiver.ip()),
         }
     }

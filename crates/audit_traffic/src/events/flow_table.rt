@@ -109,11 +109,11 @@ impl FlowTable {
         }
     }
 
-    /// A subscription of a client at a server changed.
-    pub(crate) fn disturb(&mut self, client: Ipv4Addr, server: Ipv4Addr)
-        ensures { map_of flow_cmp self.new ≡ each_changed (once_changed client server) (map_of flow_cmp self.old) }
+    /// A subscription of a client to a service at a server began or ended.
+    pub(crate) fn disturb(&mut self, client: Ipv4Addr, server: Ipv4Addr, service: u16)
+        ensures { map_of flow_cmp self.new ≡ each_changed (once_changed client server service) (map_of flow_cmp self.old) }
     {
-        groups::disturb(&mut self.groups, client, server);
+        groups::disturb(&mut self.groups, client, server, service);
     }
 
     /// A server withdrew an offer of a service.

@@ -111,20 +111,22 @@ impl FoundFlows {
         Ok(())
     }
 
-    /// A subscription of a client at a server changed.
-    pub(crate) fn disturb(&mut self, client: Ipv4Addr, server: Ipv4Addr)
-        ensures { map_of flow_cmp self.new ≡ each_changed (once_changed client server) (map_of flow_cmp self.old) }
+    /// A subscription of a client to a service at a server began or ended.
+    pub(crate) fn disturb(&mut self, client: Ipv4Addr, server: Ipv4Addr, service: u16)
+        ensures { map_of flow_cmp self.new ≡ each_changed (once_changed client server service) (map_of flow_cmp self.old) }
     {
         if !self.is_whole {
-            self.flows.disturb(client, server);
+            self.flows.disturb(client, server, service);
             return;
         }
         let to_client = Route {
             server,
+            service,
             receiver: client,
         };
         let to_groups = Route {
             server,
+            service,
             receiver: all_groups(),
         };
         disturb_at(&mut self.flows, &mut self.routes, to_client);

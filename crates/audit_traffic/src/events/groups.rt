@@ -102,12 +102,12 @@ pub(crate) fn disturb_one(groups: &mut Groups, flow: &EventFlow)
     receivers::disturb_one(group, &flow.receiver);
 }
 
-/// A subscription of a client at a server changed. It looks at every source, and at the receivers of those at
-/// this server.
-pub(crate) fn disturb(groups: &mut Groups, client: Ipv4Addr, server: Ipv4Addr)
+/// A subscription of a client to a service at a server began or ended. It looks at every source, and at the
+/// receivers of those of this service at this server.
+pub(crate) fn disturb(groups: &mut Groups, client: Ipv4Addr, server: Ipv4Addr, service: u16)
     requires { AreFlows groups.old.entries }
     ensures after { map_of flow_cmp (flows_in groups.new.entries)
-        ≡ each_changed (once_changed client server) (map_of flow_cmp (flows_in groups.old.entries)) }
+        ≡ each_changed (once_changed client server service) (map_of flow_cmp (flows_in groups.old.entries)) }
     ensures count { length (flows_in groups.new.entries) ≡ length (flows_in groups.old.entries) }
     ensures flows { AreFlows groups.new.entries }
 {
@@ -115,9 +115,9 @@ pub(crate) fn disturb(groups: &mut Groups, client: Ipv4Addr, server: Ipv4Addr)
         |source, group|
             ensures all { result ≡ true }
             ensures changed { group.new.items
-                ≡ map (changed_by (once_changed client server) source.now) group.old.items }
+                ≡ map (changed_by (once_changed client server service) source.now) group.old.items }
         {
-            receivers::disturb(source, group, client, server);
+            receivers::disturb(source, group, client, server, service);
             true
         },
     );

@@ -103,17 +103,19 @@ pub fn other_receivers_take_sessions()
 /// Where sessions may have gone to nobody no gap is told, and after a reboot nothing, by example. Events
 /// come from node 9, of service 1000.
 pub fn changes_excuse_gaps()
-    ensures changed { shown_after (Changed (node 1) (node 9) ∷ comes (node 1) 5 ∷ [])
+    ensures changed { shown_after (Changed (node 1) (node 9) 4096 ∷ comes (node 1) 5 ∷ [])
         (event_to (node 1) 7) ≡ None }
-    ensures repeated { shown_after (Changed (node 1) (node 9) ∷ comes (node 1) 5 ∷ [])
+    ensures repeated { shown_after (Changed (node 1) (node 9) 4096 ∷ comes (node 1) 5 ∷ [])
         (event_to (node 1) 5) ≡ Some Repeated }
-    ensures other_client { shown_after (Changed (node 2) (node 9) ∷ comes (node 1) 5 ∷ [])
+    ensures other_client { shown_after (Changed (node 2) (node 9) 4096 ∷ comes (node 1) 5 ∷ [])
         (event_to (node 1) 7) ≡ Some (Gap 7 6) }
-    ensures other_server { shown_after (Changed (node 1) (node 8) ∷ comes (node 1) 5 ∷ [])
+    ensures other_server { shown_after (Changed (node 1) (node 8) 4096 ∷ comes (node 1) 5 ∷ [])
         (event_to (node 1) 7) ≡ Some (Gap 7 6) }
-    ensures before { shown_after (comes (node 1) 5 ∷ Changed (node 1) (node 9) ∷ [])
+    ensures of_another_service { shown_after (Changed (node 1) (node 9) 4097 ∷ comes (node 1) 5 ∷ [])
         (event_to (node 1) 7) ≡ Some (Gap 7 6) }
-    ensures of_group { shown_after (Changed (node 1) (node 9) ∷ comes group 5 ∷ []) (event_to group 7)
+    ensures before { shown_after (comes (node 1) 5 ∷ Changed (node 1) (node 9) 4096 ∷ [])
+        (event_to (node 1) 7) ≡ Some (Gap 7 6) }
+    ensures of_group { shown_after (Changed (node 1) (node 9) 4096 ∷ comes group 5 ∷ []) (event_to group 7)
         ≡ None }
     ensures withdrawn { shown_after (Withdrawn (node 9) 4096 ∷ comes (node 1) 5 ∷ [])
         (event_to (node 1) 7) ≡ None }

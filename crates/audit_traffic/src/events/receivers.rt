@@ -106,17 +106,18 @@ pub(crate) fn forget_one(receivers: &mut Vec<Receiver>, endpoint: &SocketAddrV4)
     is_there
 }
 
-/// A subscription of a client at a server changed: the flows from this server to this client, and to a multicast
-/// group, are disturbed.
+/// A subscription of a client to a service at a server began or ended: the flows of this service from this server
+/// to this client, and to a multicast group, are disturbed.
 pub(crate) fn disturb(
     source: &EventSource,
     receivers: &mut [Receiver],
     client: Ipv4Addr,
     server: Ipv4Addr,
+    service: u16,
 )
-    ensures { receivers.new ≡ map (changed_by (once_changed client server) source.now) receivers.old }
+    ensures { receivers.new ≡ map (changed_by (once_changed client server service) source.now) receivers.old }
 {
-    if is_from(source, &server) {
+    if is_of_service(source, server, service) {
         disturb_those(receivers, client);
     }
 }
@@ -209,7 +210,7 @@ fn disturbed(receiver: Receiver) -> Receiver
     }
 }
 
-/// Whether what changes a subscription of a client may change who gets what goes to an address.
+/// Whether a subscription of a client that begins or ends may change who gets what goes to an address.
 fn may_reach(address: &Ipv4Addr, client: Ipv4Addr) -> bool
     ensures { result ≡ may_reach client address.now }
 {

@@ -1,4 +1,4 @@
-//! The addresses between which flows go.
+//! The addresses between which flows of a service go.
 ghost use Rattle.audit_traffic.specs.events.PlaceOrder.{exact_routes};
 
 use audit_index::compare_addresses;
@@ -6,12 +6,14 @@ use someip_tables::Key;
 use std::cmp::Ordering;
 use std::net::Ipv4Addr;
 
-/// The addresses between which flows go. All multicast groups are one receiver: a change of a subscription
-/// may change what goes to any of them.
+/// The addresses between which flows of a service go. All multicast groups are one receiver: a subscription that
+/// begins or ends may change what goes to any of them.
 #[derive(Clone, Copy, Debug, PartialEq, Eq)]
 pub(crate) struct Route {
     /// The address that they come from.
     pub(crate) server: Ipv4Addr,
+    /// Service ID.
+    pub(crate) service: u16,
     /// The address that they go to.
     pub(crate) receiver: Ipv4Addr,
 }
@@ -55,7 +57,10 @@ impl Ord for Route {
 
     fn cmp(&self, other: &Route) -> Ordering {
         match compare_addresses(&self.server, &other.server) {
-            Ordering::Equal => compare_addresses(&self.receiver, &other.receiver),
+            Ordering::Equal => match self.service.cmp(&other.service) {
+                Ordering::Equal => compare_addresses(&self.receiver, &other.receiver),
+                different => different,
+            },
             different => different,
         }
     }

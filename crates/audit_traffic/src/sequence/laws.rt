@@ -28,8 +28,8 @@ pub fn what_was_overtaken_is_no_loss()
     ensures last_again { shows (at 1020 1 6 ∷ at 1010 1 7 ∷ at 1000 1 5 ∷ []) 1030 7 ≡ Some Repeated }
     // At its deadline it is lost.
     ensures too_late { shows (at 1010 1 7 ∷ at 1000 1 5 ∷ []) 1110 6 ≡ None }
-    // Where a subscription changed it may have gone to nobody, and was not missing.
-    ensures excused { shows (at 1010 1 7 ∷ record { at = 1005; shown = Changed (node 1) (node 9) } ∷ at 1000 1 5 ∷ []) 1020 6
+    // Where a subscription began or ended it may have gone to nobody, and was not missing.
+    ensures excused { shows (at 1010 1 7 ∷ record { at = 1005; shown = Changed (node 1) (node 9) 4096 } ∷ at 1000 1 5 ∷ []) 1020 6
         ≡ None }
     // More than 64 are lost at once.
     ensures most { shows (at 1000 1 5 ∷ []) 1010 70 ≡ None }

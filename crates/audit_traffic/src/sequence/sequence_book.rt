@@ -106,13 +106,15 @@ impl SequenceBook {
         }
     }
 
-    /// Takes note that a subscription of a client at a server changed: by a Subscribe, a StopSubscribe,
-    /// an Ack or a Nack, or because it expired. What the next event from the server to that client, or to a
-    /// multicast group, skips is not missing. It looks at the source of every flow, and takes no memory.
-    pub fn disturb(&mut self, client: Ipv4Addr, server: Ipv4Addr)
-        ensures { self.new ≡ after_change client server self.old }
+    /// Takes note that a subscription of a client to a service at a server began, by a Subscribe or an Ack, or
+    /// ended, by a StopSubscribe or a Nack, or because it expired. What the next event of that service, or of
+    /// whatever is counted with it, from the server to that client, or to a multicast group, skips is not
+    /// missing. It takes no memory.
+    pub fn disturb(&mut self, client: Ipv4Addr, server: Ipv4Addr, service: u16)
+        ensures { self.new ≡ after_change client server service self.old }
     {
-        self.events.disturb(client, server);
+        self.events
+            .disturb(client, server, self.counting.service(service));
     }
 
     /// Takes note that a server withdrew an offer of a service by a StopOffer: what the next event of each

@@ -1,7 +1,7 @@
 use Rattle.std.proofs.Common.{◌≡◌, ◌∙◌, ap, refl, sym}
 use Rattle.std.proofs.lemmas.Result.{on_ok_weaker}
 use Rattle.someip_audit.specs.SdShown.{Work}
-use Rattle.someip_audit.specs.WatchedEndpoints.{is_looked_at}
+use Rattle.audit_endpoints.specs.WatchedEndpoints.{is_looked_at}
 use Rattle.someipctl_recordings.specs.Wanted.{view_wanted}
 use Rattle.someipctl_audit.specs.Scenes.{view_seen}
 use Rattle.someipctl_stats.specs.Counting.{after_facts, datagram_facts}

@@ -1,6 +1,6 @@
 use Rattle.std.proofs.Common.{◌≡◌, true, refl, rules}
 use Rattle.someip_audit.specs.Audits.{without_passed}
-use Rattle.someip_audit.specs.WatchedEndpoints.{is_looked_at}
+use Rattle.audit_endpoints.specs.WatchedEndpoints.{is_looked_at}
 use Rattle.someip_audit.specs.SdShown.{working}
 use Rattle.someip_audit.proofs.FrontLemmas.{begun_none, on_err_any, seen_begun, seen_front}
 use Rattle.someip_audit.proofs.audit.Audit.saw.Goals as goal

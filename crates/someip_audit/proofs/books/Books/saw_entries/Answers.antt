@@ -1,7 +1,8 @@
 use Rattle.std.proofs.Common.{◌+◌, ap, map, drop, sym, ◌∙◌}
 use Rattle.sd_wire.specs.contents.Values.{view_read}
 use Rattle.someip_audit.specs.SdShown.{entries_shown, entry_shown, working}
-use Rattle.someip_audit.proofs.FrontLemmas.{begun_later, begun_sooner, entries_front, entry_front, front_further, front_moved, next_left, on_err_any}
+use Rattle.someip_audit.proofs.FrontLemmas.{begun_later, begun_sooner, entries_front, entry_front, front_further, front_moved, on_err_any}
+use Rattle.audit_endpoints.proofs.LearnerLemmas.{next_left}
 use Rattle.someip_audit.proofs.books.Books.saw_entries.Goals as goal
 
 pub returns-in_err-saw_entry-clause-err : goal.returns-in_err-saw_entry-clause-err

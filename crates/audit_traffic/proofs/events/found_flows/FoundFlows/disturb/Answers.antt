@@ -26,5 +26,5 @@ invariant_of-self-2 c = λ whole. record {
 
 pub returns : goal.returns
 returns c = rw (← c.self.view_is) (rw c.all_groups.ensures at c.disturb_at-2.ensures.after
-    ∙ ap (each_changed (once_disturbed_at route_cmp route_of (record { server = c.args.server; receiver = all_groups }))) c.disturb_at.ensures.after
-    ∙ changed_is c.args.client c.args.server (map_of flow_cmp c.self.inside.flows))
+    ∙ ap (each_changed (once_disturbed_at route_cmp route_of (record { server = c.args.server; service = c.args.service; receiver = all_groups }))) c.disturb_at.ensures.after
+    ∙ changed_is c.args.client c.args.server c.args.service (map_of flow_cmp c.self.inside.flows))

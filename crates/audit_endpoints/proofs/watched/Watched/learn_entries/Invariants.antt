@@ -1,7 +1,7 @@
 use Rattle.std.proofs.Common.{◌≡◌, map, drop}
 use Rattle.sd_wire.specs.contents.Values.{view_read}
-use Rattle.someip_audit.specs.Learning.{learnt_of}
-use Rattle.someip_audit.proofs.watched.Watched.learn_entries.Given as goal
+use Rattle.audit_endpoints.specs.Learning.{learnt_of}
+use Rattle.audit_endpoints.proofs.watched.Watched.learn_entries.Given as goal
 
 -- what the entries that are left teach now is what all teach
 abbrev pub invariant-loop-entry : goal.invariant-loop-entry

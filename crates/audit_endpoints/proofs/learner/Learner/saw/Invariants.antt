@@ -1,6 +1,6 @@
 use Rattle.std.proofs.Common.{◌≡◌}
-use Rattle.someip_audit.specs.Learning.{learnt_of_items}
-use Rattle.someip_audit.proofs.learner.Learner.saw.Given as goal
+use Rattle.audit_endpoints.specs.Learning.{learnt_of_items}
+use Rattle.audit_endpoints.proofs.learner.Learner.saw.Given as goal
 
 -- what the items that are left teach now is what all teach
 abbrev pub invariant-loop-item : goal.invariant-loop-item

@@ -1,8 +1,8 @@
 use Rattle.std.proofs.Common.{◌+◌, ap, map, drop, sym, ◌∙◌}
 use Rattle.sd_wire.specs.contents.Values.{view_read}
-use Rattle.someip_audit.specs.Learning.{learnt_of}
-use Rattle.someip_audit.proofs.FrontLemmas.{next_left}
-use Rattle.someip_audit.proofs.watched.Watched.learn_entries.Goals as goal
+use Rattle.audit_endpoints.specs.Learning.{learnt_of}
+use Rattle.audit_endpoints.proofs.LearnerLemmas.{next_left}
+use Rattle.audit_endpoints.proofs.watched.Watched.learn_entries.Goals as goal
 
 pub loop-entry-preserved : goal.loop-entry-preserved
 loop-entry-preserved c =

@@ -3,17 +3,15 @@ ghost use Rattle.std.specs.Prelude.{◌≡◌, IfOk, OnErr, nat_lt, true};
 ghost use Rattle.std.specs.FinMap as finite;
 ghost use Rattle.someip_tables.specs.Endpoints.{endpoint_cmp};
 ghost use Rattle.someip_tables.specs.Tables.{map_of};
-ghost use Rattle.someip_audit.specs.WatchedEndpoints.{is_asked, is_at_discovery, is_looked_at, is_passed_over};
-ghost use Rattle.someip_audit.specs.WatchedEndpoints.{needs_memory, once_named, told_of_endpoint, watch_begun};
+ghost use Rattle.audit_endpoints.specs.WatchedEndpoints.{is_asked, is_looked_at, is_passed_over};
+ghost use Rattle.audit_endpoints.specs.WatchedEndpoints.{needs_memory, once_named, told_of_endpoint, watch_begun};
 
+use crate::discovery::is_at_discovery;
 use crate::finding::Finding;
 use someip_tables::hashed::{KeySet, Origin, Room};
 use std::alloc::{AllocError, Global};
 use std::marker::Model;
 use std::net::SocketAddrV4;
-
-/// The port of Service Discovery.
-const DISCOVERY_PORT: u16 = 30490;
 
 /// The endpoints that were learnt.
 type Learnt = KeySet<SocketAddrV4>;
@@ -30,7 +28,7 @@ pub struct WatchRules<'a> {
 /// At which ports and endpoints datagrams are looked at beside the port of Service Discovery: at these
 /// ports, and at the endpoints that were learnt.
 #[derive(Drop)]
-pub(crate) struct Watched {
+pub struct Watched {
     ports: Vec<u16>,
     learns: bool,
     room: Room,
@@ -40,7 +38,7 @@ pub(crate) struct Watched {
 impl Model for Watched {
     ghost use Rattle.someip_tables.specs.Endpoints.{endpoint_cmp};
     ghost use Rattle.someip_tables.specs.Tables.{map_of};
-    ghost use Rattle.someip_audit.specs.WatchedEndpoints.{Watch, coded_watch};
+    ghost use Rattle.audit_endpoints.specs.WatchedEndpoints.{Watch, coded_watch};
 
     ghost Value = { Watch };
 
@@ -57,7 +55,7 @@ impl Model for Watched {
 
 impl Watched {
     /// Before anything was learnt.
-    pub(crate) fn new(
+    pub fn new(
         alloc: Global,
         rules: &WatchRules<'_>,
         limit: usize,
@@ -73,7 +71,7 @@ impl Watched {
     }
 
     /// Whether a datagram is looked at.
-    pub(crate) fn looks_at(&self, origin: &Origin) -> bool
+    pub fn looks_at(&self, origin: &Origin) -> bool
         ensures { result ≡ is_looked_at self.now origin.now }
     {
         is_at_discovery(origin) || self.is_asked(origin)
@@ -90,14 +88,14 @@ impl Watched {
     }
 
     /// Whether it was told that no more may be learnt.
-    pub(crate) fn is_full(&self) -> bool
+    pub fn is_full(&self) -> bool
         ensures { result ≡ self.now.told_full }
     {
         self.room.told_full
     }
 
     /// Learns an endpoint that an Offer or a Subscribe names, or says once that no more may be learnt.
-    pub(crate) fn learn(&mut self, endpoint: SocketAddrV4) -> Result<Option<Finding>, AllocError>
+    pub fn learn(&mut self, endpoint: SocketAddrV4) -> Result<Option<Finding>, AllocError>
         ensures told { IfOk result (λ told. told ≡ told_of_endpoint endpoint self.old) }
         ensures after { IfOk result (λ told. self.new ≡ once_named endpoint self.old) }
         ensures err { OnErr result (self.new ≡ self.old) }
@@ -107,7 +105,7 @@ impl Watched {
             return Ok(None);
         }
         if !has_room(&self.learnt, self.room.limit) {
-            return Ok(self.room.tell_full(Finding::EndpointsFull));
+            return Ok(self.room.tell_full(Finding::Full));
         }
         self.learnt.insert(endpoint)?;
         Ok(None)
@@ -126,11 +124,4 @@ fn has_room(learnt: &Learnt, limit: usize) -> bool
     ensures { result ≡ nat_lt (finite.len (map_of endpoint_cmp learnt.now)) limit }
 {
     learnt.len() < limit
-}
-
-/// Whether a datagram comes from or goes to the port of Service Discovery.
-pub(crate) fn is_at_discovery(origin: &Origin) -> bool
-    ensures { result ≡ is_at_discovery origin.now }
-{
-    origin.from.port() == DISCOVERY_PORT || origin.to.port() == DISCOVERY_PORT
 }

@@ -10,8 +10,9 @@ use Rattle.std.specs.Net.Socket.{v4_port}
 use Rattle.someip_tables.specs.Endpoints.{coded_endpoint, endpoint_cmp}
 use Rattle.someip_tables.specs.declared.hashed.origin.Origin.{Origin}
 use Rattle.someip_tables.specs.hashed.Rooms.{told_when_full}
-use Rattle.someip_audit.specs.declared.finding.Finding.{Finding}
-use Rattle.someip_audit.specs.declared.finding.Finding.TheVariants.{EndpointsFull}
+use Rattle.audit_endpoints.specs.declared.finding.Finding.{Finding}
+use Rattle.audit_endpoints.specs.declared.finding.Finding.TheVariants.{Full}
+use Rattle.audit_endpoints.specs.DiscoveryMessages.{is_at_discovery}
 
 -- the endpoints that were learnt
 abbrev pub Learnt : Type 0
@@ -31,10 +32,6 @@ abbrev pub watch_begun : List ℕ → Bool → ℕ → Watch
 watch_begun ports learns limit = record { ports = ports; learns = learns; limit = limit; learnt = finite.empty; told_full = false }
 
 -- ---- which datagrams are looked at
-
--- a datagram comes from or goes to the port of Service Discovery
-abbrev pub is_at_discovery : Origin → Bool
-is_at_discovery origin = v4_port origin.from == 30490 || v4_port origin.to == 30490
 
 -- from or to one of these ports
 abbrev pub is_at_ports : List ℕ → Origin → Bool
@@ -62,7 +59,7 @@ is_passed_over endpoint watched = not watched.learns || is_some (finite.get watc
 abbrev pub told_of_endpoint : SocketAddrV4 → Watch → Option Finding
 told_of_endpoint endpoint watched =
     if is_passed_over endpoint watched then None
-    else if nat_lt (finite.len watched.learnt) watched.limit then None else told_when_full EndpointsFull watched.told_full
+    else if nat_lt (finite.len watched.learnt) watched.limit then None else told_when_full Full watched.told_full
 
 -- it is learnt, where one more may be
 abbrev pub once_named : SocketAddrV4 → Watch → Watch

@@ -3,13 +3,14 @@ ghost use Rattle.std.specs.Prelude.{◌≡◌, IfOk, OnErr, OnOk, map, true};
 ghost use Rattle.sd_wire.specs.contents.Values.{view_read};
 ghost use Rattle.sd_wire.specs.decoding.Program.{reading};
 ghost use Rattle.someip_wire.specs.View.{view_item};
-ghost use Rattle.someip_audit.specs.Learning.{is_looked_at_or_full, learnt_in, learnt_of, learnt_of_item, learnt_of_payload};
-ghost use Rattle.someip_audit.specs.Learning.{named_by, once_named_by};
-ghost use Rattle.someip_audit.specs.WatchedEndpoints.{is_at_discovery, watch_begun};
+ghost use Rattle.audit_endpoints.specs.Learning.{is_looked_at_or_full, learnt_in, learnt_of, learnt_of_item, learnt_of_payload};
+ghost use Rattle.audit_endpoints.specs.Learning.{named_by, once_named_by};
+ghost use Rattle.audit_endpoints.specs.DiscoveryMessages.{is_at_discovery};
+ghost use Rattle.audit_endpoints.specs.WatchedEndpoints.{watch_begun};
 
-use crate::any_message::{is_sd, read_payload};
+use crate::discovery::{is_at_discovery, is_sd, read_payload};
 use crate::entries::named_endpoint;
-use crate::watched::{WatchRules, Watched, is_at_discovery};
+use crate::watched::{WatchRules, Watched};
 use sd_wire::ReadEntry;
 use someip_tables::hashed::Origin;
 use someip_wire::{Message, Messages, WireError};
@@ -25,7 +26,7 @@ pub struct Learner {
 }
 
 impl Model for Learner {
-    ghost use Rattle.someip_audit.specs.WatchedEndpoints.{Watch, coded_watch};
+    ghost use Rattle.audit_endpoints.specs.WatchedEndpoints.{Watch, coded_watch};
 
     ghost Value = { Watch };
 

@@ -9,9 +9,9 @@ use Rattle.someip_tables.specs.declared.hashed.origin.Origin.{Origin}
 use Rattle.someip_wire.specs.Reading.{items_of}
 use Rattle.someip_wire.specs.Spelling.{MessageValue}
 use Rattle.someip_wire.specs.declared.error.WireError.{WireError}
-use Rattle.someip_audit.specs.AnyShown.{is_sd}
-use Rattle.someip_audit.specs.SdEntries.{named_endpoint}
-use Rattle.someip_audit.specs.WatchedEndpoints.{Watch, is_looked_at, once_named}
+use Rattle.audit_endpoints.specs.DiscoveryMessages.{is_sd}
+use Rattle.audit_endpoints.specs.NamedEndpoints.{named_endpoint}
+use Rattle.audit_endpoints.specs.WatchedEndpoints.{Watch, is_looked_at, once_named}
 
 -- the endpoint that an entry names: that of an Offer or a Subscribe, if its options are known and it has one
 abbrev pub named_by : ReadValue → Option SocketAddrV4

@@ -1,8 +1,8 @@
 use Rattle.std.proofs.Common.{◌≡◌, ap, refl, rules, sym, ◌∙◌}
 use Rattle.someip_wire.specs.Reading.{items_of}
-use Rattle.someip_audit.specs.Learning.{learnt_of_items}
-use Rattle.someip_audit.proofs.LearningLemmas.{items_of_others}
-use Rattle.someip_audit.proofs.learner.Learner.saw.Goals as goal
+use Rattle.audit_endpoints.specs.Learning.{learnt_of_items}
+use Rattle.audit_endpoints.proofs.LearnerLemmas.{items_of_others}
+use Rattle.audit_endpoints.proofs.learner.Learner.saw.Goals as goal
 
 pub returns-then-not-is_at_discovery-clause-learnt : goal.returns-then-not-is_at_discovery-clause-learnt
 returns-then-not-is_at_discovery-clause-learnt c =

@@ -1,0 +1,4 @@
+pub mod DiscoveryMessages
+pub mod NamedEndpoints
+pub mod WatchedEndpoints
+pub mod Learning
