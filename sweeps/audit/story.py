@@ -1,5 +1,5 @@
 """The recording examples/audit.pcap, whose story docs/FORMATS.md tells in part: a conversation in which each kind of finding
-comes, but for `full`. Written to standard output.
+comes, but for `full` and `silent`. Written to standard output.
 
     story.py > examples/audit.pcap
 """
