@@ -1,7 +1,7 @@
 -- The kinds of findings, as the summary of an audit names them.
 use Rattle.std.specs.Prelude.{ℕ, ◌==◌, if◌then◌else◌, List, [], ◌∷◌, map, codes}
 use Rattle.audit_rules.specs.declared.kind.Kind.{Kind}
-use Rattle.audit_rules.specs.declared.kind.Kind.TheVariants.{Malformed, BadRun, NoEndpoint, Reboot, SdSession, SdOvertaken, Unanswered, Late, Error, Unasked, Repeated, KeyReused, Interface, NotOffered, EventRepeated, EventOvertaken, EventGap, EventUnsubscribed, Segments, SegmentsMissing, OfferExpired, OfferMoved, Nack, SubscribeUnanswered, UnaskedAck, UnaskedNack, Full, Silent}
+use Rattle.audit_rules.specs.declared.kind.Kind.TheVariants.{Malformed, BadRun, NoEndpoint, Reboot, SdSession, SdOvertaken, Unanswered, Late, Error, Unasked, Repeated, KeyReused, Interface, NotOffered, EventRepeated, EventOvertaken, EventGap, EventUnsubscribed, Silent, Segments, SegmentsMissing, OfferExpired, OfferMoved, Nack, SubscribeUnanswered, UnaskedAck, UnaskedNack, Full}
 
 -- the words of a kind
 abbrev pub kind_words : Kind → List ℕ
@@ -23,6 +23,7 @@ kind_words EventRepeated = codes "event repeated"
 kind_words EventOvertaken = codes "event overtaken"
 kind_words EventGap = codes "event gap"
 kind_words EventUnsubscribed = codes "event unsubscribed"
+kind_words Silent = codes "silent"
 kind_words Segments = codes "segments"
 kind_words SegmentsMissing = codes "segments missing"
 kind_words OfferExpired = codes "offer expired"
@@ -32,7 +33,6 @@ kind_words SubscribeUnanswered = codes "subscribe unanswered"
 kind_words UnaskedAck = codes "unasked ack"
 kind_words UnaskedNack = codes "unasked nack"
 kind_words Full = codes "full"
-kind_words Silent = codes "silent"
 
 -- its name in an object: its words, with `-` between them
 abbrev pub kind_name : Kind → List ℕ
@@ -42,7 +42,7 @@ kind_name kind = map (λ b. if b == 0x20 then 0x2D else b) (kind_words kind)
 unfoldable pub all_kinds : List Kind
 all_kinds =
     Malformed ∷ BadRun ∷ NoEndpoint ∷ Reboot ∷ SdSession ∷ SdOvertaken ∷ Unanswered ∷ Late ∷ Error ∷ Unasked ∷ Repeated ∷ KeyReused ∷ Interface ∷ NotOffered ∷ EventRepeated
-    ∷ EventOvertaken ∷ EventGap ∷ EventUnsubscribed ∷ Segments ∷ SegmentsMissing ∷ OfferExpired ∷ OfferMoved ∷ Nack ∷ SubscribeUnanswered ∷ UnaskedAck ∷ UnaskedNack ∷ Full ∷ Silent ∷ []
+    ∷ EventOvertaken ∷ EventGap ∷ EventUnsubscribed ∷ Silent ∷ Segments ∷ SegmentsMissing ∷ OfferExpired ∷ OfferMoved ∷ Nack ∷ SubscribeUnanswered ∷ UnaskedAck ∷ UnaskedNack ∷ Full ∷ []
 
 -- the number of a kind in that order, by which kinds are told apart
 abbrev pub kind_number : Kind → ℕ
@@ -64,13 +64,13 @@ kind_number EventRepeated = 14
 kind_number EventOvertaken = 15
 kind_number EventGap = 16
 kind_number EventUnsubscribed = 17
-kind_number Segments = 18
-kind_number SegmentsMissing = 19
-kind_number OfferExpired = 20
-kind_number OfferMoved = 21
-kind_number Nack = 22
-kind_number SubscribeUnanswered = 23
-kind_number UnaskedAck = 24
-kind_number UnaskedNack = 25
-kind_number Full = 26
-kind_number Silent = 27
+kind_number Silent = 18
+kind_number Segments = 19
+kind_number SegmentsMissing = 20
+kind_number OfferExpired = 21
+kind_number OfferMoved = 22
+kind_number Nack = 23
+kind_number SubscribeUnanswered = 24
+kind_number UnaskedAck = 25
+kind_number UnaskedNack = 26
+kind_number Full = 27

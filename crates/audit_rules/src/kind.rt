@@ -41,6 +41,8 @@ pub enum Kind {
     EventGap,
     /// An event went to an endpoint without a subscription.
     EventUnsubscribed,
+    /// An event did not come for three cycles.
+    Silent,
     /// A segment is refused.
     Segments,
     /// A message stayed in part.
@@ -59,8 +61,6 @@ pub enum Kind {
     UnaskedNack,
     /// A table is full.
     Full,
-    /// An event did not come for three cycles.
-    Silent,
 }
 
 /// How many kinds there are.
@@ -90,6 +90,7 @@ pub fn kinds() -> [Kind; KIND_COUNT]
         Kind::EventOvertaken,
         Kind::EventGap,
         Kind::EventUnsubscribed,
+        Kind::Silent,
         Kind::Segments,
         Kind::SegmentsMissing,
         Kind::OfferExpired,
@@ -99,7 +100,6 @@ pub fn kinds() -> [Kind; KIND_COUNT]
         Kind::UnaskedAck,
         Kind::UnaskedNack,
         Kind::Full,
-        Kind::Silent,
     ]
 }
 
@@ -127,6 +127,7 @@ impl Kind {
             Kind::EventOvertaken => "event overtaken",
             Kind::EventGap => "event gap",
             Kind::EventUnsubscribed => "event unsubscribed",
+            Kind::Silent => "silent",
             Kind::Segments => "segments",
             Kind::SegmentsMissing => "segments missing",
             Kind::OfferExpired => "offer expired",
@@ -136,7 +137,6 @@ impl Kind {
             Kind::UnaskedAck => "unasked ack",
             Kind::UnaskedNack => "unasked nack",
             Kind::Full => "full",
-            Kind::Silent => "silent",
         }
     }
 
@@ -163,6 +163,7 @@ impl Kind {
             Kind::EventOvertaken => "event-overtaken",
             Kind::EventGap => "event-gap",
             Kind::EventUnsubscribed => "event-unsubscribed",
+            Kind::Silent => "silent",
             Kind::Segments => "segments",
             Kind::SegmentsMissing => "segments-missing",
             Kind::OfferExpired => "offer-expired",
@@ -172,7 +173,6 @@ impl Kind {
             Kind::UnaskedAck => "unasked-ack",
             Kind::UnaskedNack => "unasked-nack",
             Kind::Full => "full",
-            Kind::Silent => "silent",
         }
     }
 

@@ -15,6 +15,8 @@ use Rattle.audit_sd.specs.declared.offers.Finding.{Finding as OfferFinding}
 use Rattle.audit_sd.specs.declared.offers.Finding.TheVariants as offers
 use Rattle.audit_sd.specs.declared.receivers.Finding.{Finding as ReceiverFinding}
 use Rattle.audit_sd.specs.declared.receivers.Finding.TheVariants as receivers
+use Rattle.audit_sd.specs.declared.servers.Finding.{Finding as ServerFinding}
+use Rattle.audit_sd.specs.declared.servers.Finding.TheVariants as servers
 use Rattle.audit_sd.specs.declared.sessions.Finding.{Finding as SessionFinding}
 use Rattle.audit_sd.specs.declared.sessions.Finding.TheVariants as sessions
 use Rattle.audit_sd.specs.declared.subscriptions.Finding.{Finding as SubscribeFinding}
@@ -69,6 +71,11 @@ subject_of_event service event events.EventsFull = None
 subject_of_event service event events.GapsFull = None
 subject_of_event service event _ = Some (about_event service event)
 
+-- an Interface Version is one of a server, whatever client the message is of
+abbrev pub subject_of_server : Header → ServerFinding → Subject
+subject_of_server h (servers.Interface expected) = about_event h.service h.method
+subject_of_server h servers.NotOffered = about_call h.service h.method h.client
+
 abbrev pub subject : Finding → Option Subject
 subject (findings.Malformed fault) = Some about_nothing
 subject (findings.MalformedSd fault) = Some about_nothing
@@ -81,7 +88,7 @@ subject (findings.Subscription key shown) = subject_of_subscription key.service 
 subject (findings.Receiver key shown) = subject_of_receivers (about_service key.service) shown
 subject (findings.Call h shown) = subject_of_call h shown
 subject (findings.Error h) = Some (about_call h.service h.method h.client)
-subject (findings.Server h shown) = Some (about_call h.service h.method h.client)
+subject (findings.Server h shown) = Some (subject_of_server h shown)
 subject (findings.Event delivery shown) = subject_of_receivers (about_event delivery.service delivery.event) shown
 subject (findings.EventSession flow session shown) = subject_of_event flow.service flow.event shown
 subject (findings.Segment h refusal) = Some (about_call h.service h.method h.client)

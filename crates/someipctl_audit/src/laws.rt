@@ -197,6 +197,8 @@ pub fn findings_are_told_by_what_they_name()
     ensures error_of_client { is_found_told (of_client 0x0101) None origin_1 (findings.Error error_1) ≡ true }
     ensures interface { is_found_told (of_services (method_of 0x1234 0x0421)) None origin_1
         (findings.Server other_1 (servers.Interface 1)) ≡ true }
+    ensures interface_of_no_client { is_found_told (of_client 0x0101) None origin_1
+        (findings.Server other_1 (servers.Interface 1)) ≡ false }
     ensures not_offered { is_found_told (of_client 0x0101) None origin_1
         (findings.Server header_1 servers.NotOffered) ≡ true }
     ensures servers { is_found_told (of_services (whole_service 0x1235)) None origin_1 findings.ServersFull

@@ -6,7 +6,7 @@ ghost use Rattle.someipctl_audit.specs.Subjects.{about_call, about_event, about_
 ghost use Rattle.someipctl_audit.specs.Subjects.{is_named, is_of_addresses, is_of_client, is_of_services, is_told};
 ghost use Rattle.someipctl_audit.specs.Subjects.{names_method, names_service, number_of_ip, subject, subject_of_due};
 
-use audit_sd::{offers, receivers, sessions, subscriptions};
+use audit_sd::{offers, receivers, servers, sessions, subscriptions};
 use audit_traffic::calls::CallFinding;
 use audit_traffic::sequence;
 use recording::Time;
@@ -104,7 +104,12 @@ pub(crate) fn subject_of(finding: &Finding) -> Option<Subject>
         }
         Finding::Event(delivery, _) => Some(Subject::event(delivery.service, delivery.event)),
         Finding::EventSession(flow, _, _) => Some(Subject::event(flow.service, flow.event)),
-        Finding::Error(header) | Finding::Server(header, _) | Finding::Segment(header, _) => {
+        Finding::Server(header, servers::Finding::Interface { .. }) => {
+            Some(Subject::event(header.service, header.method))
+        }
+        Finding::Error(header)
+        | Finding::Server(header, servers::Finding::NotOffered)
+        | Finding::Segment(header, _) => {
             Some(Subject::call(header.service, header.method, header.client))
         }
     }

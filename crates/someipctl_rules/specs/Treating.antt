@@ -14,7 +14,7 @@ use Rattle.audit_rules.specs.Kinds.{kind_words}
 -- the words of all kinds
 abbrev pub all_words : List (List ℕ)
 all_words =
-    codes "malformed" ∷ codes "bad run" ∷ codes "no endpoint" ∷ codes "reboot" ∷ codes "sd session" ∷ codes "sd overtaken" ∷ codes "unanswered" ∷ codes "late" ∷ codes "error" ∷ codes "unasked" ∷ codes "repeated" ∷ codes "key reused" ∷ codes "interface" ∷ codes "not offered" ∷ codes "event repeated" ∷ codes "event overtaken" ∷ codes "event gap" ∷ codes "event unsubscribed" ∷ codes "segments" ∷ codes "segments missing" ∷ codes "offer expired" ∷ codes "offer moved" ∷ codes "nack" ∷ codes "subscribe unanswered" ∷ codes "unasked ack" ∷ codes "unasked nack" ∷ codes "full" ∷ codes "silent" ∷ []
+    codes "malformed" ∷ codes "bad run" ∷ codes "no endpoint" ∷ codes "reboot" ∷ codes "sd session" ∷ codes "sd overtaken" ∷ codes "unanswered" ∷ codes "late" ∷ codes "error" ∷ codes "unasked" ∷ codes "repeated" ∷ codes "key reused" ∷ codes "interface" ∷ codes "not offered" ∷ codes "event repeated" ∷ codes "event overtaken" ∷ codes "event gap" ∷ codes "event unsubscribed" ∷ codes "silent" ∷ codes "segments" ∷ codes "segments missing" ∷ codes "offer expired" ∷ codes "offer moved" ∷ codes "nack" ∷ codes "subscribe unanswered" ∷ codes "unasked ack" ∷ codes "unasked nack" ∷ codes "full" ∷ []
 
 -- words are those of a kind
 abbrev pub names_kind : List ℕ → Bool

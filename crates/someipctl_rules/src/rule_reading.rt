@@ -49,11 +49,10 @@ fn message_in(table: &Value) -> Result<(Option<u16>, Option<u16>), KeyError>
     ensures err { IfErr result (RefusesMessage (view table.now)) }
 {
     let service = id_at(table, "service")?;
-    let method = id_at(table, "method")?;
-    if service.is_none() && method.is_some() {
+    if service.is_none() && table.get("method").is_some() {
         return Err(KeyError::Missing("service"));
     }
-    Ok((service, method))
+    Ok((service, id_at(table, "method")?))
 }
 
 /// How a rule treats each kind.

@@ -31,6 +31,7 @@ pub(crate) const KIND_WORDS: [&str; 28] = [
     "event overtaken",
     "event gap",
     "event unsubscribed",
+    "silent",
     "segments",
     "segments missing",
     "offer expired",
@@ -40,7 +41,6 @@ pub(crate) const KIND_WORDS: [&str; 28] = [
     "unasked ack",
     "unasked nack",
     "full",
-    "silent",
 ];
 
 /// Refuses a table that has a key which is none of these.
