@@ -236,7 +236,7 @@ class Audit:
         for seen in self.all_seen("entry"):
             if seen.value.has_bad_run:
                 self.tell(seen, -1, "bad run", " " + instance_text(seen.value))
-            elif needs_endpoint(seen.value) and seen.value.endpoint is None:
+            elif needs_endpoint(seen.value) and not seen.value.names_endpoint:
                 self.tell(seen, -1, "no endpoint", " " + instance_text(seen.value))
 
     def find_sessions(self):
@@ -522,17 +522,26 @@ class Audit:
         for seen in self.all_seen("message"):
             if seen.value[0].kind == wire.NOTIFICATION and seen.value[0].session:
                 streams[self.counted(seen)].append(seen)
-        standings = self.standings()
+        changes = self.changes()
         for key, stream in streams.items():
             flows, missing = defaultdict(list), []
             for seen in stream:
-                self.judge_event(flows[seen.datagram.destination], stream, standings, missing, seen)
+                self.judge_event(flows[seen.datagram.destination], stream, changes, missing, seen)
             for gap in missing:
                 if not gap.came:
                     text = f" {event_text(gap.shown_by.value[0])} session {gap.session:04x}"
                     self.tell_due(gap.shown_by, gap.deadline, GAPS, (*key, gap.session), "event gap", text)
 
-    def judge_event(self, flow, stream, standings, missing, seen):
+    def changes(self):
+        """What excuses a gap: the entries by which a subscription begins, moves or ends, the StopOffers, and the
+        subscriptions whose time has passed."""
+        standings = self.standings()
+        goes_on = {(standing.end, standing.endpoint) for standing in standings}
+        entries = [seen for seen in self.all_seen("entry") if is_stop(seen.value) or is_end(seen.value)
+                   or is_begin(seen.value) and (seen.place, seen.value.endpoint) not in goes_on]
+        return entries, [standing for standing in standings if standing.passed is not None]
+
+    def judge_event(self, flow, stream, changes, missing, seen):
         """Judges an event by those of its flow that were each the last one, and enters it where it is the last."""
         header, ends = seen.value[0], (seen.sender, seen.receiver)
         awaited = waiting(missing, header.session, seen)
@@ -545,7 +554,8 @@ class Audit:
         if last and 0 < (last.value[0].session - header.session) % 0xFFFF <= MOST_BEHIND:
             return self.tell(seen, 4, "event overtaken", text) if awaited else None
         flow.append(seen)
-        if last and not self.is_excused(last, stream, standings, seen):
+        is_next = last and (header.session - last.value[0].session) % 0xFFFF == 1
+        if last and not is_next and not self.is_excused(last, stream, changes, seen):
             self.note_gap(last.value[0].session, missing, seen)
 
     def note_gap(self, last, missing, seen):
@@ -559,22 +569,24 @@ class Audit:
             if not waiting(missing, session, seen):
                 missing.append(Missing(session, seen, seen.moment + self.rules.overtake))
 
-    def is_excused(self, last, stream, standings, seen):
+    def is_excused(self, last, stream, changes, seen):
         """Whether the sessions between two events of a flow need not be lost."""
         ahead = lambda session: (session - last.value[0].session) % 0xFFFF
         others = any(last.place < other.place < seen.place and other.datagram.destination != seen.datagram.destination
                      and 0 < ahead(other.value[0].session) < ahead(seen.value[0].session) for other in stream)
-        return others or self.is_disturbed(last, standings, seen)
+        return others or self.is_disturbed(last, changes, seen)
 
-    def is_disturbed(self, last, standings, seen):
-        """Whether a subscription of the receiver changed, or the offer was withdrawn, between two events of a flow."""
-        for other in self.all_seen("entry"):
-            changed = other.value.kind in (SUBSCRIBE, ACK) and concerns(*sides(other), seen)
-            is_own = other.sender == seen.sender and (self.rules.by_sender or other.value.service == seen.value[0].service)
-            if last.place < other.place < seen.place and (changed or is_own and is_stop(other.value)):
+    def is_disturbed(self, last, changes, seen):
+        """Whether a subscription of the receiver to the service began or ended, or an offer of it was withdrawn, between
+        two events of a flow."""
+        is_counted = lambda service: self.rules.by_sender or service == seen.value[0].service
+        entries, passing = changes
+        for other in entries:
+            is_own = other.sender == seen.sender if is_stop(other.value) else concerns(*sides(other), seen)
+            if last.place < other.place < seen.place and is_own and is_counted(other.value.service):
                 return True
-        passed = [standing.passed for standing in standings if concerns(*standing.key[:2], seen)]
-        return any(last.moment < moment <= seen.moment for moment in passed if moment is not None)
+        return any(last.moment < standing.passed <= seen.moment and concerns(*standing.key[:2], seen)
+                   and is_counted(standing.key[2]) for standing in passing)
 
     # ---- Events that come in cycles
 
@@ -670,11 +682,21 @@ def is_stop(entry):
 
 
 def needs_endpoint(entry):
-    return entry.kind == OFFER and entry.ttl > 0 or entry.kind == SUBSCRIBE
+    return entry.kind in (OFFER, SUBSCRIBE) and entry.ttl > 0
 
 
 def asks(entry):
     return entry.kind == SUBSCRIBE and entry.ttl > 0
+
+
+def is_begin(entry):
+    """Whether a subscription begins by an entry, unless it goes on by it: an Ack begins none."""
+    return asks(entry) and entry.endpoint is not None
+
+
+def is_end(entry):
+    """Whether an entry ends a subscription, if one stands: a StopSubscribe or a Nack."""
+    return entry.kind in (SUBSCRIBE, ACK) and not entry.ttl
 
 
 def sides(seen):

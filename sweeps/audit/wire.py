@@ -30,7 +30,7 @@ class Header(NamedTuple):
 class Entry(NamedTuple):
     """An entry of Service Discovery: its kind is 0 Find, 1 Offer, 6 Subscribe or 7 Ack; its endpoint is that of the
     first IPv4 UDP endpoint option, or None. One with a bad run has no options. Of an Offer the last four bytes are the
-    minor version."""
+    minor version. One that was read says whether it names any endpoint: over UDP or TCP, of IPv4 or IPv6."""
     kind: int
     service: int
     instance: int
@@ -41,6 +41,7 @@ class Entry(NamedTuple):
     endpoint: Optional[tuple]
     has_bad_run: bool = False
     minor: int = 0
+    names_endpoint: bool = False
 
 
 class Malformed(Exception):
@@ -158,10 +159,18 @@ def parts_of(payload):
 
 
 LENGTHS = {2: 5, 4: 9, 0x14: 9, 0x24: 9, 6: 21, 0x16: 21, 0x26: 21}
+TCP, UDP = 6, 17
+
+
+def endpoint_in(whole):
+    """What an option names: whether it is an endpoint, over UDP or TCP, and that of one of IPv4 over UDP, or None."""
+    protocol = {4: whole[9:10], 6: whole[21:22]}.get(whole[2], b"")
+    end = (int.from_bytes(whole[4:8], "big"), int.from_bytes(whole[10:12], "big"))
+    return protocol in (bytes([TCP]), bytes([UDP])), end if whole[2] == 4 and whole[9] == UDP else None
 
 
 def options_of(payload, place):
-    """The options from this place on: of an IPv4 endpoint over UDP that, of others None."""
+    """What each of the options names, from this place on."""
     found = []
     while place < len(payload):
         length = int.from_bytes(payload[place:place + 2], "big")
@@ -171,8 +180,7 @@ def options_of(payload, place):
         kind = payload[place + 2]
         if LENGTHS.get(kind, length) != length:
             raise Malformed("OptionLength", place)
-        end = (int.from_bytes(whole[4:8], "big"), int.from_bytes(whole[10:12], "big"))
-        found.append(end if kind == 4 and whole[9] == 17 else None)
+        found.append(endpoint_in(whole))
         place += 3 + length
     return found
 
@@ -182,9 +190,9 @@ def entry_of(text, options):
     runs = [(index, count) for index, count in ((first, counts >> 4), (second, counts & 15)) if count]
     is_bad = any(index + count > len(options) for index, count in runs)
     chosen = [] if is_bad else [option for index, count in runs for option in options[index:index + count]]
-    endpoint = next((option for option in chosen if option is not None), None)
+    endpoint = next((end for _, end in chosen if end is not None), None)
     return Entry(kind, service, instance, version >> 24, version & FOREVER, last >> 16 & 15, last & 0xFFFF, endpoint,
-                 is_bad, last)
+                 is_bad, last, any(is_endpoint for is_endpoint, _ in chosen))
 
 
 def discovery_of(payload):
