@@ -13,7 +13,9 @@ FLAGGED, UNFLAGGED = 0xC0, 0x40
 MILLISECOND = 10**6
 SERVICES, METHODS = (0x1111, 0x2222), (0x0421, 0x0422, 0x8001, 0x8002)
 STEPS = (0, 0, 0, 1, 1, 3, 10, 100, 250, 500, 500, 999, 1000, 1000, 1001, 2000, 3000, 5000)
+PAUSES = (1, 10, 50, 100, 100, 250, 250, 500, 500, 1000, 3000)
 CODES = (1, 3, 0x0A, 0xFF)
+HOST6 = bytes((0xFD, *14 * (0,), 3))
 PAYLOADS = [b"", b"\1", b"\2", bytes(64), bytes(65), bytes(64) + b"\1", bytes(63) + b"\1\0"]
 
 
@@ -79,7 +81,7 @@ class Draws:
     def discovery_message(self, ends, kind):
         session = self.next_session(ends, (0, 0, 0, 0xFFFC, 0xFFFD))
         flags = self.flags(ends, session)
-        header = wire.Header(0xFFFF, 0x8100, 0, session, 1, wire.NOTIFICATION, 0)
+        header = wire.discovery_header(session)
         if self.chance(0.02):
             header = header._replace(**{self.one("service", "method", "interface", "kind", "client", "code"): 2})
         return wire.message(header, self.payload_of_discovery(flags, kind))
@@ -94,8 +96,7 @@ class Draws:
         own = self.client_end if kind == 6 else self.server_end
         options = [self.option(own) for _ in range(self.one(0, 1, 1, 1, 2, 3))]
         entries = [self.entry(self.kind(kind), len(options)) for _ in range(self.one(0, 1, 1, 1, 2, 3))]
-        texts, ends = b"".join(entries), b"".join(options)
-        return struct.pack(">II", flags << 24, len(texts)) + texts + struct.pack(">I", len(ends)) + ends
+        return wire.payload_of(flags, entries, options)
 
     def kind(self, usual):
         return usual if self.chance(0.85) else self.one(0, 1, 6, 7)
@@ -242,9 +243,73 @@ class Draws:
         return "".join(f"{line}\n" for line in lines)
 
 
-def drawn(some):
+class Renewals(Draws):
+    """Draws subscriptions that are renewed again and again, and begin, move and end now and then, beside events that skip
+    sessions. Offers and Subscribes are over UDP, over TCP alone, of IPv6 alone, or name no endpoint."""
+
+    def __init__(self, some):
+        super().__init__(some)
+        self.steps, self.rare, self.loose = PAUSES, some.choice((0.1, 0.3)), some.random() < 0.5
+        self.odd = some.choice((0, 0.05, 0.3))
+        self.held = [self.subscription() for _ in range(self.one(1, 2, 4))]
+
+    def subscription(self):
+        """Client, server, and the numbers of a subscription, and where its events go."""
+        client, server = self.client(), self.server()
+        entry = wire.Entry(6, self.service(), 1, 1, self.one(1, 3, 3, wire.FOREVER), self.mostly(0, 1), self.mostly(1, 2), None)
+        return client, server, entry, self.mostly(*CLIENT_PORTS)
+
+    def message(self):
+        return self.some.choices((self.renewal, self.offer, self.event), (5, 1, 8))[0]()
+
+    def datagram(self):
+        return self.message()
+
+    def event(self):
+        """An event, mostly to a client that may be subscribed."""
+        source, destination, payload = super().event()
+        client, server, entry, port = self.one(*self.held)
+        if destination[0] == GROUP or self.chance(0.1):
+            return source, destination, payload
+        header = wire.message_at(payload, 0)[0]._replace(service=entry.service)
+        end = server, self.mostly(*SERVER_PORTS)
+        return end, (client, port), wire.message(header._replace(session=self.next_session((end, header.method), (0, 0xFFFD))), b"")
+
+    def renewal(self):
+        """A Subscribe or an Ack of a subscription, or now and then a StopSubscribe, a Nack or another endpoint."""
+        client, server, entry, port = self.one(*self.held)
+        kind, is_end = self.one(6, 6, 7), self.chance(self.odd)
+        entry = entry._replace(kind=kind, ttl=0 if is_end else entry.ttl)
+        options = [] if kind == 7 else self.options(client, self.one(*CLIENT_PORTS) if self.chance(self.odd) else port)
+        ends = (client, server) if kind == 6 else (server, client)
+        return self.told(*ends, entry, options)
+
+    def offer(self):
+        entry = wire.Entry(1, self.service(), 1, 1, 0 if self.chance(self.odd) else 3, 0, 0, None)
+        server = self.server()
+        return self.told(server, GROUP, entry, self.options(server, self.mostly(*SERVER_PORTS)))
+
+    def options(self, host, port):
+        """Options that name an endpoint over UDP of IPv4, or now and then others, or both, or none."""
+        usual = wire.endpoint_option((host, port))
+        others = [wire.endpoint_option((host, port), wire.TCP), wire.endpoint6_option(HOST6, port, wire.UDP),
+                  wire.endpoint6_option(HOST6, port, wire.TCP), wire.endpoint_option((host, port), 0x21),
+                  wire.endpoint_option((GROUP, port), wire.UDP, 0x14), wire.endpoint6_option(HOST6, port, 0x21)]
+        if not self.chance(self.odd):
+            return [usual]
+        return self.one([], [self.one(*others)], [self.one(*others)], [self.one(*others), usual])
+
+    def told(self, source, destination, entry, options):
+        """A message of one entry, of a sender that hardly ever begins anew."""
+        session = self.sessions.get((source, destination), 0) + 1
+        session = 1 if self.chance(self.odd / 10) else session
+        self.sessions[source, destination] = session
+        return (source, 30490), (destination, 30490), wire.message_of_one(session, FLAGGED, entry, options)
+
+
+def drawn(some, sort=Draws):
     """The bytes of a drawn recording, and the options of a call over it."""
-    draws = Draws(some)
+    draws = sort(some)
     records = draws.records()
     if draws.chance(0.2):
         return wire.pcapng([untimed(some, record) for record in records]), draws.rules()

@@ -2,7 +2,7 @@
 
     sweep.py PROGRAM [--seed SEED] [--count COUNT] [SORT..]
 
-SORT is `calm`, `rough`, `drawn`, `ruled` or `crowds`. A recording of which the two differ is kept, with both texts.
+SORT is `calm`, `rough`, `drawn`, `ruled`, `renewed` or `crowds`. A recording of which the two differ is kept, with both texts.
 
 `sweeps/run audit` calls `someipctl audit` on recordings, and compares what it prints, byte for byte, and its exit
 status with what is expected. It needs Python 3, and nothing beside its standard library. What is expected is told by
@@ -23,6 +23,8 @@ Recordings: what they are; what is expected
     still or are not there, with packets that are no datagrams, and with drawn options; what the model tells
   1000 `ruled`: drawn as those, with drawn rules: of services and methods, with times of answers, kinds that are allowed
     and kinds of which only so many may come; what the model tells, and the exit status
+  1000 `renewed`: of subscriptions that are renewed, and begin, move and end now and then, beside events that skip
+    sessions; offers and Subscribes are over UDP, over TCP alone, of IPv6 alone, or name no endpoint; what the model tells
   13 `crowds`: a table of an audit comes to its limit of 65,536 keys, one for each table but `cycles`; and calls that
     were answered fill theirs, in one that goes on while they are known, and in one that goes on when they no longer
     are; `full NAME` at the first thing that finds no room, and nothing else
@@ -50,7 +52,7 @@ import story
 KEPT = Path(os.environ.get("TMPDIR", "/tmp")) / "someipctl-audit"
 EXAMPLES = Path(__file__).resolve().parents[2] / "examples"
 WORLDS = 20
-SORTS = ["calm", "rough", "drawn", "ruled", "crowds"]
+SORTS = ["calm", "rough", "drawn", "ruled", "renewed", "crowds"]
 UNJUDGED = ("not looked at ", "no Offer ", "one way ")
 WEIGHED = ("allowed ", " at most ")
 
@@ -122,6 +124,11 @@ class Sweep:
             data, words = draws.drawn(self.generator("drawn", number))
             expected = model.audited(data, model.rules_of(words)[0])
             self.judge("drawn", number, data, words, expected)
+
+    def renewed(self, count):
+        for number in range(count):
+            data, words = draws.drawn(self.generator("renewed", number), draws.Renewals)
+            self.judge("renewed", number, data, words, model.audited(data, model.rules_of(words)[0]))
 
     def ruled(self, count):
         """Drawn recordings, with drawn rules."""

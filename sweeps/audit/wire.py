@@ -117,6 +117,11 @@ def endpoint_option(endpoint, protocol=17, kind=4):
     return struct.pack(">HBBIBBH", 9, kind, 0, endpoint[0], 0, protocol, endpoint[1])
 
 
+def endpoint6_option(host, port, protocol):
+    """An endpoint of IPv6, whose address is so many bytes."""
+    return struct.pack(">HBB16sBBH", 21, 6, 0, host, 0, protocol, port)
+
+
 def entry_bytes(entry, index, count):
     """An entry whose first run has so many options from this index on."""
     last = entry.counter << 16 | entry.group
@@ -130,14 +135,26 @@ def discovery_payload(flags, entries):
     ends = list(dict.fromkeys(entry.endpoint for entry in entries if entry.endpoint is not None))
     run = lambda entry: ((len(ends), 1) if entry.has_bad_run else
                          (ends.index(entry.endpoint), 1) if entry.endpoint is not None else (0, 0))
-    texts = b"".join(entry_bytes(entry, *run(entry)) for entry in entries)
-    options = b"".join(map(endpoint_option, ends))
-    return struct.pack(">II", flags << 24, len(texts)) + texts + struct.pack(">I", len(options)) + options
+    return payload_of(flags, [entry_bytes(entry, *run(entry)) for entry in entries], map(endpoint_option, ends))
+
+
+def payload_of(flags, entries, options):
+    """A payload with the bytes of these entries and of these options."""
+    texts, ends = b"".join(entries), b"".join(options)
+    return struct.pack(">II", flags << 24, len(texts)) + texts + struct.pack(">I", len(ends)) + ends
+
+
+def discovery_header(session):
+    return Header(0xFFFF, 0x8100, 0, session, 1, NOTIFICATION, 0)
 
 
 def discovery_message(session, flags, entries):
-    header = Header(0xFFFF, 0x8100, 0, session, 1, NOTIFICATION, 0)
-    return message(header, discovery_payload(flags, entries))
+    return message(discovery_header(session), discovery_payload(flags, entries))
+
+
+def message_of_one(session, flags, entry, options):
+    """A message of Service Discovery with one entry, which has all of these options."""
+    return message(discovery_header(session), payload_of(flags, [entry_bytes(entry, 0, len(options))], options))
 
 
 def parts_of(payload):
