@@ -273,7 +273,8 @@ class Renewals(Draws):
             return source, destination, payload
         header = wire.message_at(payload, 0)[0]._replace(service=entry.service)
         end = server, self.mostly(*SERVER_PORTS)
-        return end, (client, port), wire.message(header._replace(session=self.next_session((end, header.method), (0, 0xFFFD))), b"")
+        session = self.next_session((end, header.method), (0, 0xFFFD))
+        return end, (client, port), wire.message(header._replace(session=session), b"")
 
     def renewal(self):
         """A Subscribe or an Ack of a subscription, or now and then a StopSubscribe, a Nack or another endpoint."""

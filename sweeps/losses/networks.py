@@ -104,7 +104,8 @@ class Network:
     # ---- Offers
 
     def service(self, at):
-        service = Service(0x1000 + at, FIRST_SERVER + self.some.choice((0, 0, 1)), 30501 + at, at > 0 and self.some.random() < 0.2)
+        is_tcp = at > 0 and self.some.random() < 0.2
+        service = Service(0x1000 + at, FIRST_SERVER + self.some.choice((0, 0, 1)), 30501 + at, is_tcp)
         pause, time = self.within(300, 1400), self.within(0, 50)
         while time < self.end:
             self.tell(time, service.host, GROUP, self.entry(OFFER, service, 3), service.end(), service.is_tcp)
@@ -241,7 +242,8 @@ class Network:
     # ---- What a tap records, and what has to be told of it
 
     def taps(self):
-        return (Tap("all"), Tap("server", self.some.choice(self.services).host), Tap("client", self.some.choice(self.receivers)))
+        server, client = self.some.choice(self.services).host, self.some.choice(self.receivers)
+        return Tap("all"), Tap("server", server), Tap("client", client)
 
     def seen_by(self, tap, lost):
         """The numbers of the datagrams that a tap records, where these events are lost."""

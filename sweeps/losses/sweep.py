@@ -113,7 +113,7 @@ def main():
         print(f"losses: nothing was lost of {', '.join(lacking)}")
     if lacking or sweep.differences:
         return 1
-    print(f"losses: 1 example, {words.count} networks at 3 taps: {sweep.lost} lost events, told {sweep.told} times, "
+    print(f"losses: 1 example, {words.count} networks: {sweep.lost} lost events, told {sweep.told} times by 3 taps, "
           "none without loss, no finding")
     return 0
 
