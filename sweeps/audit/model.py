@@ -695,7 +695,7 @@ def is_begin(entry):
 
 
 def is_end(entry):
-    """Whether an entry ends a subscription, if one stands: a StopSubscribe or a Nack."""
+    """Whether an entry is a StopSubscribe or a Nack, which ends what stands under its key."""
     return entry.kind in (SUBSCRIBE, ACK) and not entry.ttl
 
 

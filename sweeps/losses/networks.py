@@ -26,7 +26,7 @@ SPANS = ((5, (10, 20, 50, 100, 200)), (15, (50, 100, 200, 500, 1000)), (40, (500
 RENEWALS = ((3, 1000), (3, 1000), (3, 250), (3, 2500), (5, 2000), (wire.FOREVER, 1000), (wire.FOREVER, 60000))
 # How many events are lost one after the other.
 RUNS = (*[1] * 8, 2, 2, 3, 5, 64, 65, 90)
-LEAST_LOSSES = 3
+LEAST_LOSSES = 8
 
 
 class Service(NamedTuple):
