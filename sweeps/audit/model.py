@@ -15,8 +15,8 @@ from seen import ACK, OFFER, SUBSCRIBE, Datagram, Seen, datagrams_of, looked_at,
 
 KINDS = ("malformed", "bad run", "no endpoint", "reboot", "sd session", "sd overtaken", "unanswered", "late", "error",
          "unasked", "repeated", "key reused", "interface", "not offered", "event repeated", "event overtaken", "event gap",
-         "event unsubscribed", "segments", "segments missing", "offer expired", "offer moved", "nack",
-         "subscribe unanswered", "unasked ack", "unasked nack", "full", "silent")
+         "event unsubscribed", "silent", "segments", "segments missing", "offer expired", "offer moved", "nack",
+         "subscribe unanswered", "unasked ack", "unasked nack", "full")
 OF_SERVICES = ("bad run", "no endpoint", "offer expired", "offer moved", "nack", "subscribe unanswered", "unasked ack",
                "unasked nack")
 CALLS, SEGMENTS, OFFERS, SUBSCRIBES, GAPS, SILENCES = range(6)
@@ -537,8 +537,11 @@ class Audit:
         subscriptions whose time has passed."""
         standings = self.standings()
         goes_on = {(standing.end, standing.endpoint) for standing in standings}
-        entries = [seen for seen in self.all_seen("entry") if is_stop(seen.value) or is_end(seen.value)
-                   or is_begin(seen.value) and (seen.place, seen.value.endpoint) not in goes_on]
+        found, acked = {standing.end for standing in standings}, {standing.begin for standing in standings}
+        entries = [seen for seen in self.all_seen("entry") if is_stop(seen.value)
+                   or is_end(seen.value) and seen.place in found
+                   or is_begin(seen.value) and (seen.place, seen.value.endpoint) not in goes_on
+                   or is_ack(seen.value) and seen.place not in acked]
         return entries, [standing for standing in standings if standing.passed is not None]
 
     def judge_event(self, flow, stream, changes, missing, seen):
@@ -682,7 +685,7 @@ def is_stop(entry):
 
 
 def needs_endpoint(entry):
-    return entry.kind in (OFFER, SUBSCRIBE) and entry.ttl > 0
+    return entry.kind == OFFER and entry.ttl > 0 or entry.kind == SUBSCRIBE
 
 
 def asks(entry):
@@ -690,8 +693,13 @@ def asks(entry):
 
 
 def is_begin(entry):
-    """Whether a subscription begins by an entry, unless it goes on by it: an Ack begins none."""
+    """Whether a subscription begins by an entry, unless it goes on by it."""
     return asks(entry) and entry.endpoint is not None
+
+
+def is_ack(entry):
+    """Whether an entry is an Ack: one that finds nothing under its key shows that a subscription begins."""
+    return entry.kind == ACK and entry.ttl > 0
 
 
 def is_end(entry):
