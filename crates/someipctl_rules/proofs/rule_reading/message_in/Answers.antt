@@ -16,10 +16,10 @@ returns-in_err-service-clause-err c =
     (refuses_by (message_in (view c.args.table.now)) (view c.args.table.now) (codes "service") _
     (ap (λ (o : Option (Option ℕ)). option_and_then (λ service. option_and_then (placed service) (id_at (codes "method") (view c.args.table.now))) o) e.0) (FailsAt.service e.0) e.1)
 
-pub returns-in_err-method-clause-err : goal.returns-in_err-method-clause-err
-returns-in_err-method-clause-err c =
-    let p = err_from_is_err_and c.from_residual-in_err-method.result c.from_residual-in_err-method.ensures.1 in
-    let e = c.in_err-method.ensures in
+pub returns-in_err-id_at-clause-err : goal.returns-in_err-id_at-clause-err
+returns-in_err-id_at-clause-err c =
+    let p = err_from_is_err_and c.from_residual-in_err-id_at.result c.from_residual-in_err-id_at.ensures.1 in
+    let e = c.in_err-id_at.ensures in
     rw (p.1, p.2)
     (refuses_by (message_in (view c.args.table.now)) (view c.args.table.now) (codes "method") _
     (ap (λ (o : Option (Option ℕ)). option_and_then (λ service. option_and_then (placed service) (id_at (codes "method") (view c.args.table.now))) o) c.in_ok-service.ensures
