@@ -6,10 +6,7 @@ use sd_wire::{EntryHead, EventgroupKind, ServiceEntry, ServiceKind};
 use std::net::SocketAddrV4;
 
 /// The endpoint that an entry names: that of an Offer or a Subscribe, if it has one.
-pub fn named_endpoint(
-    head: &EntryHead,
-    endpoint: Option<SocketAddrV4>,
-) -> Option<SocketAddrV4>
+pub fn named_endpoint(head: &EntryHead, endpoint: Option<SocketAddrV4>) -> Option<SocketAddrV4>
     ensures { result ≡ named_endpoint head.now endpoint }
 {
     if names_endpoint(head) { endpoint } else { None }

@@ -55,11 +55,7 @@ impl Model for Watched {
 
 impl Watched {
     /// Before anything was learnt.
-    pub fn new(
-        alloc: Global,
-        rules: &WatchRules<'_>,
-        limit: usize,
-    ) -> Result<Watched, AllocError>
+    pub fn new(alloc: Global, rules: &WatchRules<'_>, limit: usize) -> Result<Watched, AllocError>
         ensures { IfOk result (λ watched. watched ≡ watch_begun rules.now.ports.now rules.now.learns limit) }
     {
         Ok(Watched {

@@ -12,8 +12,8 @@ ghost use Rattle.someip_audit.specs.SdShown.{told_of_options, told_unasked, with
 
 use crate::books::Books;
 use crate::entries::{
-    instance_of, lacks_endpoint, offer_entry, offers_by, receiver_entry,
-    sd_message, served_by, server_key, server_offer, subscribe_entry, withdrawn_offer,
+    instance_of, lacks_endpoint, offer_entry, offers_by, receiver_entry, sd_message, served_by,
+    server_key, server_offer, subscribe_entry, withdrawn_offer,
 };
 use crate::finding::Finding;
 use audit_endpoints::named_endpoint;

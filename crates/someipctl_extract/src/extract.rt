@@ -17,10 +17,10 @@ ghost use Rattle.someipctl_recordings.specs.Wanted.{view_wanted};
 
 use crate::kept::{Kept, fragment_key};
 use crate::output::{Losses, Output};
+use audit_endpoints::Learner;
 use recording::{Record, RecordingReader};
 use recording_packets::fragments::{HeldFragments, PacketKey};
 use recording_packets::{Intake, LeftOut};
-use audit_endpoints::Learner;
 use someipctl_io::{Buffer, Fault, PrintFault};
 use someipctl_recordings::read_loop::{Coming, next_coming};
 use someipctl_recordings::sought::{is_full, learner_of, seeks};

@@ -6,8 +6,8 @@ ghost use Rattle.someipctl_recordings.specs.Wanted.{ports_of, view_wanted};
 
 use crate::reassembly::socket_of;
 use crate::wanted::Wanted;
-use recording_packets::Arrival;
 use audit_endpoints::{Learner, WatchRules};
+use recording_packets::Arrival;
 use someip_tables::hashed::{Numbers, Origin};
 use std::alloc::{AllocError, Global};
 
