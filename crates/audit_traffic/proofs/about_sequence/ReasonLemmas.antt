@@ -12,12 +12,11 @@ use Rattle.audit_traffic.specs.declared.gaps.gap.Gap.{Gap}
 use Rattle.audit_traffic.specs.declared.gaps.key.MissingEvent.{MissingEvent}
 use Rattle.audit_traffic.specs.declared.sequence.counting.Counting.{Counting}
 use Rattle.audit_traffic.specs.events.EventHistories.{shown_after}
-use Rattle.audit_traffic.specs.gaps.GapRules.{awaited_from, is_lost_by, missing_count, unless_lost}
-use Rattle.audit_traffic.specs.gaps.GapTables.{is_wide}
-use Rattle.audit_traffic.specs.gaps.MissingKeys.{missing_cmp, missing_of}
+use Rattle.audit_traffic.specs.gaps.GapRules.{awaited_from, is_lost_by, unless_lost}
+use Rattle.audit_traffic.specs.gaps.MissingKeys.{is_from, missing_cmp, missing_of}
 use Rattle.audit_traffic.specs.sequence.CountedFlows.{counted, counted_event}
 use Rattle.audit_traffic.specs.sequence.Sequences.{gap_of}
-use Rattle.audit_traffic.specs.sequence.SequenceHistories.{BeganAgain, Came, Changed, Shown, Step, Withdrawn, after_gap_shown, after_shown, after_step, flows_shown, is_among, missing_in, or_awaited, unless_it_came}
+use Rattle.audit_traffic.specs.sequence.SequenceHistories.{BeganAgain, Came, Changed, Shown, Step, Withdrawn, after_gap_shown, after_shown, after_step, flows_shown, is_of_gap, missing_in, or_awaited, unless_it_came}
 use Rattle.audit_traffic.specs.sequence.SequenceReasons.{IsMissing, NoneSince, Skips, leaves}
 
 kept : (p : Awaited → Bool) (v : Option Awaited) (awaited : Awaited) → kept_if p v ≡ Some awaited → (v ≡ Some awaited) × (p awaited ≡ true)
@@ -62,17 +61,15 @@ module _ (counting : Counting) (ms : ℕ) (key : MissingEvent) (awaited : Awaite
   stays e = own (eq_by_cmp missing_cmp key (missing_of (counted counting event.flow) event.session)) refl e
 
   gap_shown : (session expected : ℕ) → shown_after (flows_shown counting earlier) (counted_event counting event) ≡ Some (shown.Gap session expected)
-      → (w : Bool) → is_wide (gap_of (counted counting event.flow) event.flow numbers expected session) ≡ w
-      → (a : Bool) → is_among (counted counting event.flow) expected (missing_count (gap_of (counted counting event.flow) event.flow numbers expected session)) key ≡ a
+      → (a : Bool) → is_of_gap (gap_of (counted counting event.flow) event.flow numbers expected session) key ≡ a
       → (v : Option Awaited) → unless_it_came (counted_event counting event) key before ≡ v
-      → (if w then v else if a then or_awaited v (awaited_from at ms (gap_of (counted counting event.flow) event.flow numbers expected session)) else v) ≡ Some awaited
+      → (if a then or_awaited v (awaited_from at ms (gap_of (counted counting event.flow) event.flow numbers expected session)) else v) ≡ Some awaited
       → Change counting ms key awaited at (Came numbers event) earlier before
-  gap_shown session expected is true wide a among v v_is e = stays (v_is ∙ e)
-  gap_shown session expected is false wide false among v v_is e = stays (v_is ∙ e)
-  gap_shown session expected is false wide true among (Some held) v_is e = stays (v_is ∙ e)
-  gap_shown session expected is false wide true among None v_is e =
+  gap_shown session expected is false among v v_is e = stays (v_is ∙ e)
+  gap_shown session expected is true among (Some held) v_is e = stays (v_is ∙ e)
+  gap_shown session expected is true among None v_is e =
       let same : awaited_from at ms (gap_of (counted counting event.flow) event.flow numbers expected session) ≡ awaited = cc in
-      made (some, (session, expected, is, wide, among), v_is, same)
+      made (some, (session, expected, is, among), v_is, same)
 
   by_shown : (told : Option EventShown) → shown_after (flows_shown counting earlier) (counted_event counting event) ≡ told
       → after_shown at ms numbers (counted counting event.flow) event.flow told key (unless_it_came (counted_event counting event) key before) ≡ Some awaited
@@ -82,15 +79,18 @@ module _ (counting : Counting) (ms : ℕ) (key : MissingEvent) (awaited : Awaite
   by_shown (Some shown.Behind) is e = stays e
   by_shown (Some shown.Full) is e = stays e
   by_shown (Some (shown.Gap session expected)) is e =
-      gap_shown session expected is (is_wide (gap_of (counted counting event.flow) event.flow numbers expected session)) refl
-      (is_among (counted counting event.flow) expected (missing_count (gap_of (counted counting event.flow) event.flow numbers expected session)) key) refl
+      gap_shown session expected is (is_of_gap (gap_of (counted counting event.flow) event.flow numbers expected session) key) refl
       (unless_it_came (counted_event counting event) key before) refl e
 
 changed : (counting : Counting) (ms : ℕ) (key : MissingEvent) (awaited : Awaited) (at : ℕ) (one : Shown) (earlier : List Step) (before : Option Awaited)
     → after_step counting at ms one earlier key before ≡ Some awaited → Change counting ms key awaited at one earlier before
 changed counting ms key awaited at (Changed client server service) earlier before is = left is refl
 changed counting ms key awaited at (Withdrawn server service) earlier before is = left is refl
-changed counting ms key awaited at (BeganAgain address) earlier before is = left is refl
+changed counting ms key awaited at (BeganAgain address) earlier before is = cases (is_from address key) refl is
+  where
+    cases : (b : Bool) → is_from address key ≡ b → (if b then None else before) ≡ Some awaited → Change counting ms key awaited at (BeganAgain address) earlier before
+    cases true own e = absurd (cc)
+    cases false own e = left e (ap not own)
 changed counting ms key awaited at (Came numbers event) earlier before is = cases (event.session == 0) refl is
   where
     cases : (z : Bool) → (event.session == 0) ≡ z
@@ -107,19 +107,17 @@ still at ms numbers flow named None key awaited = refl
 still at ms numbers flow named (Some shown.Repeated) key awaited = refl
 still at ms numbers flow named (Some shown.Behind) key awaited = refl
 still at ms numbers flow named (Some shown.Full) key awaited = refl
-still at ms numbers flow named (Some (shown.Gap session expected)) key awaited =
-    cases (is_wide (gap_of flow named numbers expected session)) (is_among flow expected (missing_count (gap_of flow named numbers expected session)) key)
+still at ms numbers flow named (Some (shown.Gap session expected)) key awaited = cases (is_of_gap (gap_of flow named numbers expected session) key)
   where
-    cases : (w a : Bool) → (if w then Some awaited else if a then Some awaited else Some awaited) ≡ Some awaited
-    cases true a = refl
-    cases false true = refl
-    cases false false = refl
+    cases : (a : Bool) → (if a then Some awaited else Some awaited) ≡ Some awaited
+    cases true = refl
+    cases false = refl
 
 unchanged : (counting : Counting) (ms : ℕ) (key : MissingEvent) (awaited : Awaited) (at : ℕ) (one : Shown) (earlier : List Step) → leaves counting key one ≡ true
     → after_step counting at ms one earlier key (Some awaited) ≡ Some awaited
 unchanged counting ms key awaited at (Changed client server service) earlier is = refl
 unchanged counting ms key awaited at (Withdrawn server service) earlier is = refl
-unchanged counting ms key awaited at (BeganAgain address) earlier is = refl
+unchanged counting ms key awaited at (BeganAgain address) earlier is = ap (λ b. if b then None else Some awaited) (not_true (is_from address key) is)
 unchanged counting ms key awaited at (Came numbers event) earlier is = cases (event.session == 0) (eq_by_cmp missing_cmp key (missing_of (counted counting event.flow) event.session)) is
   where
     cases : (z t : Bool) → (z || not t) ≡ true
@@ -165,7 +163,7 @@ waits_on counting ms key awaited (step ∷ newer) rest is since =
 pub is_missing : (counting : Counting) (ms : ℕ) (key : MissingEvent) (awaited : Awaited) (steps : List Step) → IsMissing counting ms key awaited steps → missing_in counting ms steps key ≡ Some awaited
 is_missing counting ms key awaited steps one =
     ap (λ es. missing_in counting ms es key) one.5
-    ∙ waits_on counting ms key awaited one.0 (record { at = one.1; shown = Came one.2 one.3 } ∷ one.4) (begins one.6 one.7.2 one.7.3 one.7.4 one.8 one.9) one.10
+    ∙ waits_on counting ms key awaited one.0 (record { at = one.1; shown = Came one.2 one.3 } ∷ one.4) (begins one.6 one.7.2 one.7.3 one.8 one.9) one.10
   where
     flow : EventFlow
     flow = counted counting one.3.flow
@@ -173,15 +171,15 @@ is_missing counting ms key awaited steps one =
     gap : Gap
     gap = gap_of (counted counting one.3.flow) one.3.flow one.2 one.7.1 one.7.0
 
-    begins : (one.3.session == 0) ≡ false → shown_after (flows_shown counting one.4) (counted_event counting one.3) ≡ Some (shown.Gap one.7.0 one.7.1) → is_wide gap ≡ false
-        → is_among (counted counting one.3.flow) one.7.1 (missing_count gap) key ≡ true
+    begins : (one.3.session == 0) ≡ false → shown_after (flows_shown counting one.4) (counted_event counting one.3) ≡ Some (shown.Gap one.7.0 one.7.1)
+        → is_of_gap gap key ≡ true
         → unless_it_came (counted_event counting one.3) key (unless_lost one.1 (missing_in counting ms one.4 key)) ≡ None
         → record { shown_by = one.3.flow; numbers = one.2; until = one.1 + ms } ≡ awaited
         → missing_in counting ms (record { at = one.1; shown = Came one.2 one.3 } ∷ one.4) key ≡ Some awaited
-    begins some told narrow among none made_it =
+    begins some told among none made_it =
         ap (λ z. if z then unless_lost one.1 (missing_in counting ms one.4 key)
         else after_shown one.1 ms one.2 (counted counting one.3.flow) one.3.flow (shown_after (flows_shown counting one.4) (counted_event counting one.3)) key
         (unless_it_came (counted_event counting one.3) key (unless_lost one.1 (missing_in counting ms one.4 key)))) some
         ∙ ap (λ t. after_shown one.1 ms one.2 (counted counting one.3.flow) one.3.flow t key (unless_it_came (counted_event counting one.3) key (unless_lost one.1 (missing_in counting ms one.4 key)))) told
         ∙ ap (λ v. after_gap_shown one.1 ms gap key v) none
-        ∙ rw (narrow, among) (ap (λ a. Some a) made_it)
+        ∙ rw among (ap (λ a. Some a) made_it)

@@ -1,24 +1,25 @@
 -- What a book holds and tells of the steps so far.
-use Rattle.std.proofs.Common.{◌≡◌, ℕ, ◌==◌, Bool, true, false, if◌then◌else◌, not, List, [], ◌∷◌, Option, None, Some, is_some, refl, sym, ap, ◌∙◌}
+use Rattle.std.proofs.Common.{◌≡◌, ℕ, ◌==◌, Bool, true, false, if◌then◌else◌, not, cond, List, [], ◌∷◌, Option, None, Some, is_some, refl, sym, ap, ◌∙◌}
 use Rattle.std.specs.FinMap as finite
 use Rattle.someip_tables.proofs.Entries.{get-retain}
+use Rattle.someip_tables.specs.Retained.{kept_if}
 use Rattle.someip_tables.specs.hashed.Rooms.{told_when_full}
 use Rattle.someip_tables.specs.declared.hashed.origin.Numbers.{Numbers}
 use Rattle.audit_traffic.specs.declared.events.finding.Finding.{Finding as EventShown}
 use Rattle.audit_traffic.specs.declared.events.finding.Finding.TheVariants as shown
 use Rattle.audit_traffic.specs.declared.events.notification.Notification.{Notification}
+use Rattle.audit_traffic.specs.declared.gaps.awaited.Awaited.{Awaited}
 use Rattle.audit_traffic.specs.declared.gaps.gap.Gap.{Gap}
 use Rattle.audit_traffic.specs.declared.gaps.finding.Finding.TheVariants as gap
 use Rattle.audit_traffic.specs.declared.gaps.key.MissingEvent.{MissingEvent}
-use Rattle.audit_traffic.specs.declared.sequence.finding.Finding.TheVariants.{Lost}
 use Rattle.audit_traffic.specs.declared.sequence.sequence_book.SequenceRules.{SequenceRules}
 use Rattle.audit_traffic.specs.events.EventHistories as flows
 use Rattle.audit_traffic.specs.events.EventHistories.{shown_after}
 use Rattle.audit_traffic.specs.events.EventTables as events
 use Rattle.audit_traffic.specs.events.EventTables.{Events}
-use Rattle.audit_traffic.specs.gaps.GapRules.{awaited_from, is_lost_by, missing_count, session_before, unless_lost}
-use Rattle.audit_traffic.specs.gaps.GapTables.{Gaps, after_gap, has_room, is_wide, told_of_gap, with_missing}
-use Rattle.audit_traffic.specs.gaps.MissingKeys.{missing_cmp, missing_of}
+use Rattle.audit_traffic.specs.gaps.GapRules.{awaited_from, is_lost_by, unless_lost}
+use Rattle.audit_traffic.specs.gaps.GapTables.{Gaps, after_gap, has_room, once_skipped, told_of_gap}
+use Rattle.audit_traffic.specs.gaps.MissingKeys.{is_from, missing_cmp, missing_of}
 use Rattle.audit_traffic.specs.gaps.MissingOrder.{exact_missing, missing_total}
 use Rattle.audit_traffic.specs.sequence.CountedFlows.{counted, counted_event, counted_service}
 use Rattle.audit_traffic.specs.sequence.Sequences.{Sequence, gap_of, gaps_after, gaps_without, of_gap, told_by, told_of}
@@ -178,6 +179,12 @@ missing rules (step ∷ earlier) key e g =
         ∙ ap (λ c. after_shown step.at rules.overtake_ms numbers (counted c event.flow) event.flow (shown_after (flows_shown rules.counting earlier) (counted_event rules.counting event)) key
         (unless_it_came (counted_event c event) key (unless_lost step.at (missing_in rules.counting rules.overtake_ms earlier key)))) (counting_is rules earlier)
 
+    gone : (b : Bool) (v : Option Awaited) → kept_if (λ _. not b) v ≡ (if b then None else v)
+    gone true None = refl
+    gone true (Some awaited) = refl
+    gone false None = refl
+    gone false (Some awaited) = refl
+
     by : finite.get book.gaps.waiting key ≡ unless_lost step.at (missing_in rules.counting rules.overtake_ms earlier key) → (one : Shown)
         → (flows.book_of rules.limit (of_flows rules.counting one ∷ flows_shown rules.counting earlier)).told_full ≡ false → (book_after step.at one book).gaps.told_full ≡ false
         → finite.get (book_after step.at one book).gaps.waiting key
@@ -185,7 +192,10 @@ missing rules (step ∷ earlier) key e g =
     by before (Came numbers event) fits full = came before numbers event (event.session == 0) fits full
     by before (Changed client server service) fits full = before
     by before (Withdrawn server service) fits full = before
-    by before (BeganAgain address) fits full = before
+    by before (BeganAgain address) fits full =
+        get-retain missing_total exact_missing book.gaps.waiting (λ k _. not (is_from address k)) key
+        ∙ ap (kept_if (λ _. not (is_from address key))) before
+        ∙ gone (is_from address key) (unless_lost step.at (missing_in rules.counting rules.overtake_ms earlier key))
 
 missing_by : (rules : SequenceRules) (now : ℕ) (earlier : List Step) (key : MissingEvent) → (book_of rules earlier).events.told_full ≡ false → (book_of rules earlier).gaps.told_full ≡ false
     → finite.get (without_lost now (book_of rules earlier)).gaps.waiting key ≡ unless_lost now (missing_in rules.counting rules.overtake_ms earlier key)
@@ -194,15 +204,13 @@ missing_by rules now earlier key e g = left now (book_of rules earlier) key ∙ 
 -- ---- what an event shows
 
 -- what a gap shows where it fits
-gap_shows : (now : ℕ) (skipped : Gap) (gaps : Gaps) → (after_gap now skipped gaps).told_full ≡ false → of_gap (told_of_gap skipped gaps) ≡ (if is_wide skipped then Some (Lost skipped.first (session_before skipped.session)) else None)
-gap_shows now skipped gaps fits = cases (is_wide skipped) (has_room skipped gaps) gaps.told_full fits
+gap_shows : (now : ℕ) (skipped : Gap) (gaps : Gaps) → (after_gap now skipped gaps).told_full ≡ false → of_gap (told_of_gap skipped gaps) ≡ None
+gap_shows now skipped gaps fits = cases (has_room skipped gaps) gaps.told_full fits
   where
-    cases : (w r f : Bool)
-        → (if w then gaps else if r then record gaps { waiting = with_missing skipped.flow skipped.first (awaited_from now gaps.overtake_ms skipped) (missing_count skipped) gaps.waiting } else record gaps { told_full = true }).told_full ≡ false
-        → of_gap (if w then Some (gap.Lost skipped.first (session_before skipped.session)) else if r then None else told_when_full gap.Full f) ≡ (if w then Some (Lost skipped.first (session_before skipped.session)) else None)
-    cases true r f still = refl
-    cases false true f still = refl
-    cases false false f still = absurd (cc)
+    cases : (r f : Bool) → (if r then record gaps { waiting = once_skipped skipped (awaited_from now gaps.overtake_ms skipped) gaps.waiting } else record gaps { told_full = true }).told_full ≡ false
+        → of_gap (if r then None else told_when_full gap.Full f) ≡ None
+    cases true f still = refl
+    cases false f still = absurd (cc)
 
 pub told : (rules : SequenceRules) (steps : List Step) (now : ℕ) (numbers : Numbers) (event : Notification)
     → (book_of rules (record { at = now; shown = Came numbers event } ∷ steps)).events.told_full ≡ false → (book_of rules (record { at = now; shown = Came numbers event } ∷ steps)).gaps.told_full ≡ false

@@ -12,11 +12,11 @@ use Rattle.audit_traffic.specs.declared.gaps.awaited.Awaited.{Awaited}
 use Rattle.audit_traffic.specs.declared.gaps.gap.Gap.{Gap}
 use Rattle.audit_traffic.specs.declared.gaps.key.MissingEvent.{MissingEvent}
 use Rattle.audit_traffic.specs.gaps.GapRules.{awaited_from, missing_count, session_after}
-use Rattle.audit_traffic.specs.gaps.GapTables.{Gaps, Waiting, after_gap, has_room, is_wide, or_waits, with_missing}
+use Rattle.audit_traffic.specs.gaps.GapTables.{Gaps, Waiting, after_gap, has_room, is_wide, once_skipped, or_waits, run_of_gap, with_missing}
 use Rattle.audit_traffic.specs.gaps.MissingKeys.{missing_cmp, missing_of}
 use Rattle.audit_traffic.specs.gaps.MissingOrder.{exact_missing, missing_total}
 use Rattle.audit_traffic.specs.sequence.Sequences.{gap_of, gaps_after, gaps_without}
-use Rattle.audit_traffic.specs.sequence.SequenceHistories.{after_gap_shown, after_shown, is_among, or_awaited, unless_it_came}
+use Rattle.audit_traffic.specs.sequence.SequenceHistories.{after_gap_shown, after_shown, is_among, is_of_gap, or_awaited, unless_it_came}
 
 -- ---- a gap
 
@@ -58,35 +58,39 @@ get-among flow first awaited (suc n) waiting key =
     either true false v = refl
     either false m v = refl
 
+get-skipped : (gap : Gap) (awaited : Awaited) (waiting : Waiting) (key : MissingEvent)
+    → finite.get (once_skipped gap awaited waiting) key ≡ (if is_of_gap gap key then or_awaited (finite.get waiting key) awaited else finite.get waiting key)
+get-skipped gap awaited waiting key = cases (is_wide gap)
+  where
+    cases : (w : Bool)
+        → finite.get (cond w (or_waits (run_of_gap gap) awaited waiting) (with_missing gap.flow gap.first awaited (missing_count gap) waiting)) key
+        ≡ cond (cond w (eq_by_cmp missing_cmp key (run_of_gap gap)) (is_among gap.flow gap.first (missing_count gap) key)) (or_awaited (finite.get waiting key) awaited) (finite.get waiting key)
+    cases true = get-or (run_of_gap gap) awaited waiting key
+    cases false = get-among gap.flow gap.first awaited (missing_count gap) waiting key
+
 get-gap : (now : ℕ) (gap : Gap) (gaps : Gaps) (key : MissingEvent) → (after_gap now gap gaps).told_full ≡ false
     → finite.get (after_gap now gap gaps).waiting key ≡ after_gap_shown now gaps.overtake_ms gap key (finite.get gaps.waiting key)
-get-gap now gap gaps key fits = cases (is_wide gap) (has_room gap gaps) fits
+get-gap now gap gaps key fits = cases (has_room gap gaps) fits
   where
-    cases : (w r : Bool)
-        → (if w then gaps else if r then record gaps { waiting = with_missing gap.flow gap.first (awaited_from now gaps.overtake_ms gap) (missing_count gap) gaps.waiting } else record gaps { told_full = true }).told_full ≡ false
-        → finite.get (if w then gaps else if r then record gaps { waiting = with_missing gap.flow gap.first (awaited_from now gaps.overtake_ms gap) (missing_count gap) gaps.waiting } else record gaps { told_full = true }).waiting key
-        ≡ (if w then finite.get gaps.waiting key else if is_among gap.flow gap.first (missing_count gap) key then or_awaited (finite.get gaps.waiting key) (awaited_from now gaps.overtake_ms gap) else finite.get gaps.waiting key)
-    cases true r still = refl
-    cases false true still = get-among gap.flow gap.first (awaited_from now gaps.overtake_ms gap) (missing_count gap) gaps.waiting key
-    cases false false still = absurd (cc)
+    cases : (r : Bool) → (if r then record gaps { waiting = once_skipped gap (awaited_from now gaps.overtake_ms gap) gaps.waiting } else record gaps { told_full = true }).told_full ≡ false
+        → finite.get (if r then record gaps { waiting = once_skipped gap (awaited_from now gaps.overtake_ms gap) gaps.waiting } else record gaps { told_full = true }).waiting key
+        ≡ (if is_of_gap gap key then or_awaited (finite.get gaps.waiting key) (awaited_from now gaps.overtake_ms gap) else finite.get gaps.waiting key)
+    cases true still = get-skipped gap (awaited_from now gaps.overtake_ms gap) gaps.waiting key
+    cases false still = absurd (cc)
 
 gap_full : (now : ℕ) (gap : Gap) (gaps : Gaps) → gaps.told_full ≡ true → (after_gap now gap gaps).told_full ≡ true
-gap_full now gap gaps is = cases (is_wide gap) (has_room gap gaps)
+gap_full now gap gaps is = cases (has_room gap gaps)
   where
-    cases : (w r : Bool)
-        → (if w then gaps else if r then record gaps { waiting = with_missing gap.flow gap.first (awaited_from now gaps.overtake_ms gap) (missing_count gap) gaps.waiting } else record gaps { told_full = true }).told_full ≡ true
-    cases true r = is
-    cases false true = is
-    cases false false = refl
+    cases : (r : Bool) → (if r then record gaps { waiting = once_skipped gap (awaited_from now gaps.overtake_ms gap) gaps.waiting } else record gaps { told_full = true }).told_full ≡ true
+    cases true = is
+    cases false = refl
 
 gap_time : (now : ℕ) (gap : Gap) (gaps : Gaps) → (after_gap now gap gaps).overtake_ms ≡ gaps.overtake_ms
-gap_time now gap gaps = cases (is_wide gap) (has_room gap gaps)
+gap_time now gap gaps = cases (has_room gap gaps)
   where
-    cases : (w r : Bool)
-        → (if w then gaps else if r then record gaps { waiting = with_missing gap.flow gap.first (awaited_from now gaps.overtake_ms gap) (missing_count gap) gaps.waiting } else record gaps { told_full = true }).overtake_ms ≡ gaps.overtake_ms
-    cases true r = refl
-    cases false true = refl
-    cases false false = refl
+    cases : (r : Bool) → (if r then record gaps { waiting = once_skipped gap (awaited_from now gaps.overtake_ms gap) gaps.waiting } else record gaps { told_full = true }).overtake_ms ≡ gaps.overtake_ms
+    cases true = refl
+    cases false = refl
 
 -- ---- an event as it is counted
 

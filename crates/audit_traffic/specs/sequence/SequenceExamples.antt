@@ -5,7 +5,8 @@ use Rattle.audit_traffic.specs.declared.gaps.key.MissingEvent.{MissingEvent}
 use Rattle.audit_traffic.specs.declared.sequence.counting.Counting.TheVariants.{ByEvent, BySender}
 use Rattle.audit_traffic.specs.declared.sequence.finding.Finding.{Finding}
 use Rattle.audit_traffic.specs.events.EventExamples.{event_to, flow_to, node}
-use Rattle.audit_traffic.specs.gaps.MissingKeys.{missing_of}
+use Rattle.audit_traffic.specs.gaps.MissingKeys.{missing_of, run_of}
+use Rattle.audit_traffic.specs.sequence.CountedFlows.{counted}
 use Rattle.audit_traffic.specs.sequence.SequenceHistories.{Came, Step, told_in}
 
 -- the numbers of a datagram
@@ -22,6 +23,13 @@ another_at moment to session = record { at = moment; shown = Came numbers (recor
 -- a session of event 8001
 abbrev pub session_of : ℕ → MissingEvent
 session_of session = missing_of (flow_to 0x8001 (node 1)) session
+
+-- a run of its sessions; and a session of its sender, where sessions count by that
+abbrev pub run : ℕ → ℕ → MissingEvent
+run first last = run_of (flow_to 0x8001 (node 1)) first last
+
+abbrev pub of_sender : ℕ → MissingEvent
+of_sender session = missing_of (counted BySender (flow_to 0x8001 (node 1))) session
 
 -- what an event 8001 to node 1 shows after these, where sessions count by event or by sender, and may come 100 milliseconds later
 abbrev pub shows : List Step → ℕ → ℕ → Option Finding

@@ -13,13 +13,13 @@ use Rattle.audit_traffic.specs.declared.gaps.gap.Gap.{Gap}
 use Rattle.audit_traffic.specs.declared.gaps.key.MissingEvent.{MissingEvent}
 use Rattle.audit_traffic.specs.declared.sequence.counting.Counting.{Counting}
 use Rattle.audit_traffic.specs.declared.sequence.finding.Finding.{Finding}
-use Rattle.audit_traffic.specs.declared.sequence.finding.Finding.TheVariants.{Lost, Repeated}
+use Rattle.audit_traffic.specs.declared.sequence.finding.Finding.TheVariants.{Repeated}
 use Rattle.audit_traffic.specs.declared.sequence.sequence_book.SequenceRules.{SequenceRules}
 use Rattle.audit_traffic.specs.events.EventHistories as flows
 use Rattle.audit_traffic.specs.events.EventHistories.{shown_after}
-use Rattle.audit_traffic.specs.gaps.GapRules.{awaited_from, is_lost_by, missing_count, session_after, session_before, unless_lost}
-use Rattle.audit_traffic.specs.gaps.GapTables.{Gaps, is_wide}
-use Rattle.audit_traffic.specs.gaps.MissingKeys.{missing_cmp, missing_of}
+use Rattle.audit_traffic.specs.gaps.GapRules.{awaited_from, is_lost_by, missing_count, session_after, unless_lost}
+use Rattle.audit_traffic.specs.gaps.GapTables.{Gaps, is_wide, run_of_gap}
+use Rattle.audit_traffic.specs.gaps.MissingKeys.{is_from, missing_cmp, missing_of}
 use Rattle.audit_traffic.specs.sequence.CountedFlows.{counted, counted_event, counted_service}
 use Rattle.audit_traffic.specs.sequence.Sequences.{Sequence, after_change, after_event, after_withdrawal, gap_of, new_sequence, told_behind, without}
 
@@ -59,12 +59,13 @@ abbrev pub or_awaited : Option Awaited → Awaited → Option Awaited
 or_awaited None awaited = Some awaited
 or_awaited (Some earlier) awaited = Some earlier
 
--- a session once a gap was shown: it is missing, if it is one of the gap's, and these are not too many
+-- a session is one of a gap's, or it is the run of them all, where these are too many
+abbrev pub is_of_gap : Gap → MissingEvent → Bool
+is_of_gap gap key = if is_wide gap then eq_by_cmp missing_cmp key (run_of_gap gap) else is_among gap.flow gap.first (missing_count gap) key
+
+-- a session, or a run, once a gap was shown: it is missing, if it is of the gap
 abbrev pub after_gap_shown : ℕ → ℕ → Gap → MissingEvent → Option Awaited → Option Awaited
-after_gap_shown now overtake_ms gap key before =
-    if is_wide gap then before
-    else if is_among gap.flow gap.first (missing_count gap) key then or_awaited before (awaited_from now overtake_ms gap)
-    else before
+after_gap_shown now overtake_ms gap key before = if is_of_gap gap key then or_awaited before (awaited_from now overtake_ms gap) else before
 
 -- a session once an event showed this of its flow
 abbrev pub after_shown : ℕ → ℕ → Numbers → EventFlow → EventFlow → Option EventShown → MissingEvent → Option Awaited → Option Awaited
@@ -86,7 +87,7 @@ abbrev pub after_step : Counting → ℕ → ℕ → Shown → List Step → Mis
 after_step counting now overtake_ms (Came numbers event) earlier key before = after_came counting now overtake_ms numbers event earlier key before
 after_step counting now overtake_ms (Changed client server service) earlier key before = before
 after_step counting now overtake_ms (Withdrawn server service) earlier key before = before
-after_step counting now overtake_ms (BeganAgain address) earlier key before = before
+after_step counting now overtake_ms (BeganAgain address) earlier key before = if is_from address key then None else before
 
 -- a session that is missing after these steps. One that is lost by the next step waits no more then
 abbrev pub missing_in : Counting → ℕ → List Step → MissingEvent → Option Awaited
@@ -102,8 +103,7 @@ told_with numbers flow named None was_missing = None
 told_with numbers flow named (Some shown.Repeated) was_missing = Some Repeated
 told_with numbers flow named (Some shown.Behind) was_missing = told_behind was_missing
 told_with numbers flow named (Some shown.Full) was_missing = None
-told_with numbers flow named (Some (shown.Gap session expected)) was_missing =
-    if is_wide (gap_of flow named numbers expected session) then Some (Lost expected (session_before session)) else None
+told_with numbers flow named (Some (shown.Gap session expected)) was_missing = None
 
 -- what an event shows that comes at a moment after these steps
 abbrev pub told_in : Counting → ℕ → List Step → ℕ → Numbers → Notification → Option Finding

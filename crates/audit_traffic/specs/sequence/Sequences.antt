@@ -15,7 +15,7 @@ use Rattle.audit_traffic.specs.declared.gaps.gap.Gap.{Gap}
 use Rattle.audit_traffic.specs.declared.sequence.counting.Counting.{Counting}
 use Rattle.audit_traffic.specs.declared.sequence.counting.Counting.TheVariants.{ByEvent, BySender}
 use Rattle.audit_traffic.specs.declared.sequence.finding.Finding.{Finding}
-use Rattle.audit_traffic.specs.declared.sequence.finding.Finding.TheVariants.{EventsFull, GapsFull, Lost, Overtaken, Repeated}
+use Rattle.audit_traffic.specs.declared.sequence.finding.Finding.TheVariants.{EventsFull, GapsFull, Overtaken, Repeated}
 use Rattle.audit_traffic.specs.declared.sequence.sequence_book.SequenceRules.{SequenceRules}
 use Rattle.audit_traffic.specs.events.EventTables as events
 use Rattle.audit_traffic.specs.events.EventTables.{Events, coded_events}
@@ -60,7 +60,6 @@ told_behind false = None
 -- what a gap shows
 abbrev pub of_gap : Option GapShown → Option Finding
 of_gap None = None
-of_gap (Some (gap.Lost first last)) = Some (Lost first last)
 of_gap (Some gap.Full) = Some GapsFull
 
 -- what is told of an event as it is counted, by what it shows of its flow
@@ -110,7 +109,7 @@ abbrev pub after_withdrawal : Ipv4Addr → ℕ → Sequence → Sequence
 after_withdrawal server service book = record book { events = events.after_withdrawal server (counted_service book.counting service) book.events }
 
 abbrev pub without : Ipv4Addr → Sequence → Sequence
-without address book = record book { events = events.without address book.events }
+without address book = record book { events = events.without address book.events; gaps = gaps.without_sender address book.gaps }
 
 -- once a session that is lost was told
 abbrev pub after_due : Option LostEvent → Sequence → Sequence

@@ -6,24 +6,17 @@ use someip_tables::hashed::Numbers;
 /// What a gap shows at once.
 #[derive(Clone, Copy, Debug, PartialEq, Eq)]
 pub enum Finding {
-    /// More than 64 sessions are missing: they are lost, and do not wait.
-    Lost {
-        /// The first of them.
-        first: u16,
-        /// The last of them.
-        last: u16,
-    },
     /// The book holds so many sessions that those of this gap have no room, so none of them is taken. It is
     /// told once in the life of a book.
     Full,
 }
 
-/// A session of an event that did not come in time.
+/// A session of an event that did not come in time, or a run of them.
 #[derive(Clone, Copy, Debug, PartialEq, Eq)]
 pub struct LostEvent {
     /// The moment until which it might come, in milliseconds.
     pub at: u64,
-    /// The session.
+    /// The session, or the run.
     pub key: MissingEvent,
     /// The event that skipped it.
     pub shown_by: EventFlow,

@@ -1,9 +1,13 @@
 //! Sessions of an event that an event after them skips.
 ghost use Rattle.std.specs.Prelude.{◌≡◌};
 ghost use Rattle.audit_traffic.specs.gaps.GapRules.{missing_count, session_before};
+ghost use Rattle.audit_traffic.specs.gaps.GapTables.{is_wide, key_count};
 
 use crate::events::{EventFlow, ahead};
 use someip_tables::hashed::Numbers;
+
+/// The most sessions of one gap that wait each by itself: more wait as one run.
+const MOST_SINGLE: u16 = 64;
 
 /// Sessions of an event that an event after them skips, and that went neither to nobody nor to another
 /// receiver.
@@ -27,6 +31,20 @@ impl Gap {
         ensures { result ≡ missing_count self.now }
     {
         ahead(self.first, self.session)
+    }
+
+    /// Whether these are more than wait each by itself.
+    pub fn is_wide(&self) -> bool
+        ensures { result ≡ is_wide self.now }
+    {
+        MOST_SINGLE < self.count()
+    }
+
+    /// How many keys they take: a run that is too long takes one.
+    pub fn key_count(&self) -> u16
+        ensures { result ≡ key_count self.now }
+    {
+        if self.is_wide() { 1 } else { self.count() }
     }
 
     /// The last of them: the session before that of the event that skips them.

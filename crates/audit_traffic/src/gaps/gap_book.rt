@@ -3,28 +3,27 @@ ghost use Rattle.std.specs.Prelude.{◌≡◌, ◌≢◌, ◌≤◌, IfOk, OnErr
 ghost use Rattle.std.specs.FinMap as finite;
 ghost use Rattle.someip_tables.specs.Waits.{HoldsFrom, due_by};
 ghost use Rattle.audit_traffic.specs.gaps.GapRules.{waits_until};
-ghost use Rattle.audit_traffic.specs.gaps.GapTables.{FallsDue, IsPartOfGap, after_due, after_gap, begins_to_wait};
-ghost use Rattle.audit_traffic.specs.gaps.GapTables.{told_of_gap, without_missing};
+ghost use Rattle.audit_traffic.specs.gaps.GapTables.{FallsDue, IsPartOfGap, after_due, after_gap, has_room};
+ghost use Rattle.audit_traffic.specs.gaps.GapTables.{told_of_gap, without_missing, without_sender};
 
 use crate::gaps::awaited::Awaited;
 use crate::gaps::finding::{Finding, LostEvent};
 use crate::gaps::gap::Gap;
 use crate::gaps::key::MissingEvent;
-use crate::gaps::waiting::{first_lost, wait_for};
+use crate::gaps::waiting::{first_lost, forget, wait_for_gap};
+use audit_index::OwnedTable;
 use someip_tables::Moment;
-use someip_tables::hashed::{DueTable, Room};
+use someip_tables::hashed::Room;
 use std::alloc::{AllocError, Global};
 use std::marker::Model;
-
-/// The most sessions of one gap that wait: of more it is told at once that they are lost.
-const MOST_MISSING: u16 = 64;
+use std::net::Ipv4Addr;
 
 /// The sessions of events that are missing, and may still come.
 #[derive(Drop)]
 pub struct GapBook {
     room: Room,
     overtake_ms: u32,
-    waiting: DueTable<MissingEvent, Awaited>,
+    waiting: OwnedTable<MissingEvent, Awaited>,
 }
 
 impl Model for GapBook {
@@ -49,7 +48,7 @@ impl Model for GapBook {
 }
 
 impl GapBook {
-    /// A book that holds at most so many sessions, and none yet. A session may come so many milliseconds
+    /// A book that holds at most so many sessions and runs, and none yet. A session may come so many milliseconds
     /// after the event that skipped it. It takes no memory.
     pub fn new(alloc: Global, limit: usize, overtake_ms: u32) -> GapBook
         ensures { result ≡ record {
@@ -62,29 +61,22 @@ impl GapBook {
         GapBook {
             room: Room::new(limit),
             overtake_ms,
-            waiting: DueTable::new(alloc),
+            waiting: OwnedTable::new(alloc),
         }
     }
 
     /// Takes note of sessions that an event skipped, and says what this shows at once.
     ///
-    /// At most 64 of them wait until they come, or are lost; a session that waits already goes on as it
-    /// does. More are lost at once. Memory is taken for those that begin to wait alone; where it runs out,
-    /// some of them wait, from the first on.
+    /// At most 64 of them wait each until it comes, or is lost; a session that waits already goes on as it does.
+    /// More wait as one run, which no event ends. Memory is taken for those that begin to wait alone; where it
+    /// runs out, some of them wait, from the first on, and a run does not.
     pub fn skipped(&mut self, now: Moment, gap: &Gap) -> Result<Option<Finding>, AllocError>
         ensures told { IfOk result (λ told. told ≡ told_of_gap gap.now self.old) }
         ensures after { IfOk result (λ told. self.new ≡ after_gap now gap.now self.old) }
         ensures err { OnErr result (IsPartOfGap now gap.now self.old self.new) }
-        ensures grows { OnErr result (begins_to_wait gap.now self.old ≡ true) }
+        ensures grows { OnErr result (has_room gap.now self.old ≡ true) }
     {
-        let count = gap.count();
-        if MOST_MISSING < count {
-            return Ok(Some(Finding::Lost {
-                first: gap.first,
-                last: gap.last(),
-            }));
-        }
-        if self.room.limit - self.waiting.len() < usize::from(count) {
+        if self.room.limit - self.waiting.len() < usize::from(gap.key_count()) {
             return Ok(self.room.tell_full(Finding::Full));
         }
         let awaited = Awaited {
@@ -92,7 +84,7 @@ impl GapBook {
             numbers: gap.numbers,
             until: now.as_millis() + u64::from(self.overtake_ms),
         };
-        wait_for(&mut self.waiting, &gap.flow, gap.first, count, awaited)?;
+        wait_for_gap(&mut self.waiting, gap, awaited)?;
         Ok(None)
     }
 
@@ -107,7 +99,15 @@ impl GapBook {
         is_missing
     }
 
-    /// The session that is lost first, by deadline and then by session, if one is. It waits no more then.
+    /// Takes note that the senders at an address began again: what was missing of them waits no more. It looks at
+    /// this alone, and takes no memory.
+    pub fn forget(&mut self, address: Ipv4Addr)
+        ensures { self.new ≡ without_sender address self.old }
+    {
+        forget(&mut self.waiting, address);
+    }
+
+    /// The session or the run that is lost first, by deadline and then by session, if one is. It waits no more then.
     /// Whoever goes over a recording asks until nothing is left, with the moment of each datagram and before
     /// it. It takes no memory.
     pub fn due(&mut self, now: Moment) -> Option<LostEvent>
@@ -131,7 +131,7 @@ impl GapBook {
         }
     }
 
-    /// How many sessions wait: no more than the book's limit.
+    /// How many sessions and runs wait: no more than the book's limit.
     pub fn len(&self) -> usize
         ensures count { result ≡ finite.len self.now.waiting }
         ensures few { result ≤ self.now.limit }

@@ -1,7 +1,7 @@
-//! What tells the sessions of events that are missing apart.
+//! What tells sessions of events that are missing apart, and runs of them.
 ghost use Rattle.audit_traffic.specs.gaps.MissingOrder.{exact_missing};
 ghost use Rattle.std.specs.Prelude.{◌≡◌};
-ghost use Rattle.audit_traffic.specs.gaps.MissingKeys.{missing_of};
+ghost use Rattle.audit_traffic.specs.gaps.MissingKeys.{missing_of, run_of};
 
 use crate::events::EventFlow;
 use someip_tables::Key;
@@ -10,8 +10,8 @@ use std::cmp::Ordering;
 use std::hash::{Hash, Hasher};
 use std::net::SocketAddrV4;
 
-/// A session of an event that one sender gave: by rising sender, then by the numbers. Whoever gets it, it is
-/// the same.
+/// A session of an event that one sender gave, or a run of them: by rising sender, then by the numbers. Whoever gets
+/// it, it is the same.
 #[derive(Clone, Copy, Debug)]
 pub struct MissingEvent {
     /// The endpoint that it comes from.
@@ -20,8 +20,10 @@ pub struct MissingEvent {
     pub service: u16,
     /// Event ID.
     pub event: u16,
-    /// The session.
+    /// The session, or the first of a run.
     pub session: u16,
+    /// The last session of a run, and else the session itself.
+    pub last: u16,
 }
 
 impl MissingEvent {
@@ -34,6 +36,20 @@ impl MissingEvent {
             service: flow.service,
             event: flow.event,
             session,
+            last: session,
+        }
+    }
+
+    /// The sessions of the event of a flow from one to another, which are told as one run.
+    pub fn run(flow: &EventFlow, first: u16, last: u16) -> MissingEvent
+        ensures { result ≡ run_of flow.now first last }
+    {
+        MissingEvent {
+            sender: flow.sender,
+            service: flow.service,
+            event: flow.event,
+            session: first,
+            last,
         }
     }
 }
@@ -105,7 +121,11 @@ impl Ord for MissingEvent {
             different => return different,
         }
         match self.event.cmp(&other.event) {
-            Ordering::Equal => self.session.cmp(&other.session),
+            Ordering::Equal => {}
+            different => return different,
+        }
+        match self.session.cmp(&other.session) {
+            Ordering::Equal => self.last.cmp(&other.last),
             different => different,
         }
     }
@@ -125,6 +145,7 @@ impl Hash for MissingEvent {
     fn hash<H: Hasher>(&self, state: &mut H) {
         state.write_u64(number_of_endpoint(&self.sender));
         let event = u64::from(self.service) * 65536 + u64::from(self.event);
-        state.write_u64(event * 65536 + u64::from(self.session));
+        let session = event * 65536 + u64::from(self.session);
+        state.write_u64(session * 65536 + u64::from(self.last));
     }
 }

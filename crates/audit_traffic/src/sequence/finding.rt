@@ -7,13 +7,6 @@ pub enum Finding {
     Repeated,
     /// It was missing: a later event came first.
     Overtaken,
-    /// More than 64 sessions before it are missing, and lost.
-    Lost {
-        /// The first of them.
-        first: u16,
-        /// The last of them.
-        last: u16,
-    },
     /// As many flows are held as may be, so this one is not taken. It is told once in the life of a book, and
     /// from then on no session is seen to be missing.
     EventsFull,

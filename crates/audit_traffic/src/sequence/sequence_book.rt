@@ -71,7 +71,7 @@ impl SequenceBook {
     /// One without a session shows nothing. One with the session of the last event of its flow is repeated.
     /// One up to 64 sessions behind that one was overtaken, if its session was missing, and else shows
     /// nothing. Of one that skips sessions, where none of them may have gone to nobody or to another
-    /// receiver, at most 64 are missing from now on, or more are lost at once. A session that comes is
+    /// receiver, these are missing from now on: each by itself, and more than 64 as one run. A session that comes is
     /// missing no more, whoever gets it. Where memory runs out the event may be taken and some of what it
     /// skips may be missing, from the first on; nothing else is changed.
     pub fn saw(
@@ -125,12 +125,13 @@ impl SequenceBook {
         self.events.withdraw(server, self.counting.service(service));
     }
 
-    /// Forgets the flows from an address that began again, and those to it: the next event of each is
-    /// the first. Sessions that are missing stay so. It looks at every flow, and takes no memory.
+    /// Forgets the flows from an address that began again, and those to it: the next event of each is the first. What
+    /// is missing of its own events is so no more. It takes no memory.
     pub fn forget(&mut self, address: Ipv4Addr)
         ensures { self.new ≡ without address self.old }
     {
         self.events.forget(address);
+        self.gaps.forget(address);
     }
 
     /// The session that is lost first, by deadline and then by session, if one is. It is missing no more then.
@@ -186,7 +187,6 @@ fn of_gap(shown: Option<gaps::Finding>) -> Option<Finding>
 {
     match shown {
         None => None,
-        Some(gaps::Finding::Lost { first, last }) => Some(Finding::Lost { first, last }),
         Some(gaps::Finding::Full) => Some(Finding::GapsFull),
     }
 }
