@@ -528,9 +528,9 @@ class Audit:
             for seen in stream:
                 self.judge_event(flows[seen.datagram.destination], stream, changes, missing, seen)
             for gap in missing:
-                if not gap.came:
-                    text = f" {event_text(gap.shown_by.value[0])} session {gap.session:04x}"
-                    self.tell_due(gap.shown_by, gap.deadline, GAPS, (*key, gap.session), "event gap", text)
+                if not gap.came and not self.fell(gap, sys.maxsize):
+                    text = f" {event_text(gap.shown_by.value[0])} session {gap.text()}"
+                    self.tell_due(gap.shown_by, gap.deadline, GAPS, (*key, *gap.run), "event gap", text)
 
     def changes(self):
         """What excuses a gap: the entries by which a subscription begins, moves or ends, the StopOffers, and the
@@ -547,7 +547,7 @@ class Audit:
     def judge_event(self, flow, stream, changes, missing, seen):
         """Judges an event by those of its flow that were each the last one, and enters it where it is the last."""
         header, ends = seen.value[0], (seen.sender, seen.receiver)
-        awaited = waiting(missing, header.session, seen)
+        awaited = self.waiting(missing, (header.session, header.session), seen)
         if awaited:
             awaited.came = True
         last = flow[-1] if flow and not self.rebooted(ends, flow[-1].place, seen.place) else None
@@ -562,15 +562,24 @@ class Audit:
             self.note_gap(last.value[0].session, missing, seen)
 
     def note_gap(self, last, missing, seen):
-        """Notes the sessions between the last one and this, or tells that they are lost."""
+        """Notes the sessions between the last one and this: each, or a run of them where these are many."""
         header = seen.value[0]
         skipped = [(last + ahead) % 0xFFFF or 0xFFFF for ahead in range(1, (header.session - last) % 0xFFFF)]
-        if len(skipped) > MOST_BEHIND:
-            text = f" {event_text(header)} session {skipped[0]:04x} to {skipped[-1]:04x}"
-            return self.tell(seen, 4, "event gap", text)
-        for session in skipped:
-            if not waiting(missing, session, seen):
-                missing.append(Missing(session, seen, seen.moment + self.rules.overtake))
+        runs = [(session, session) for session in skipped]
+        for run in [(skipped[0], skipped[-1])] if len(skipped) > MOST_BEHIND else runs:
+            if not self.waiting(missing, run, seen):
+                missing.append(Missing(run, seen, seen.moment + self.rules.overtake))
+
+    def waiting(self, missing, run, seen):
+        """The missing session or run that this is, if it waits where something is seen: before its deadline, or in the
+        very datagram that showed it."""
+        waits = (gap for gap in missing if gap.run == run and not gap.came and not self.fell(gap, seen.place))
+        return next((gap for gap in waits if seen.moment < gap.deadline or gap.shown_by.datagram == seen.datagram), None)
+
+    def fell(self, gap, place):
+        """Whether its sender began anew while it waited, before a place."""
+        return any(seen.sender == gap.shown_by.sender and gap.shown_by.place < seen.place < place
+                   and (seen.moment < gap.deadline or seen.datagram == gap.shown_by.datagram) for seen in self.reboots)
 
     def is_excused(self, last, stream, changes, seen):
         """Whether the sessions between two events of a flow need not be lost."""
@@ -718,17 +727,15 @@ def concerns(client, server, seen):
 
 
 class Missing:
-    """A session that an event skipped, until when it may come, and whether it did."""
+    """A session that an event skipped, or a run of them, by its first and its last; until when it may come, and whether it
+    did."""
 
-    def __init__(self, session, shown_by, deadline):
-        self.session, self.shown_by, self.deadline, self.came = session, shown_by, deadline, False
+    def __init__(self, run, shown_by, deadline):
+        self.run, self.shown_by, self.deadline, self.came = run, shown_by, deadline, False
 
-
-def waiting(missing, session, seen):
-    """The missing session that this is, if it waits where something is seen: before its deadline, or in the very datagram
-    that showed it."""
-    waits = (gap for gap in missing if gap.session == session and not gap.came)
-    return next((gap for gap in waits if seen.moment < gap.deadline or gap.shown_by.datagram == seen.datagram), None)
+    def text(self):
+        first, last = self.run
+        return f"{first:04x}" if first == last else f"{first:04x} to {last:04x}"
 
 
 class Standing(NamedTuple):

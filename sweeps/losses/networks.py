@@ -273,15 +273,15 @@ class Network:
         sessions = [cycle.session(lost.first + at) for at in range(lost.count)]
         ends = f"{place + 1} {wire.endpoint_text(shown.source)} {wire.endpoint_text(shown.destination)}"
         text = f"{ends} event gap {cycle.service.service:04x}.{cycle.event:04x} session"
-        if lost.count > MOST_WAITING:
-            time = BEGIN + shown.time
-            clock = f"{time // SECOND}.{time % SECOND:09}"
-            return [(place, 1, time, (), f"{clock} {text} {sessions[0]:04x} to {sessions[-1]:04x}")]
         deadline = moments[place] + OVERTAKE
         clock = f"{deadline // 1000}.{deadline % 1000:03}000000"
         key = (*cycle.service.end(), cycle.service.service, cycle.event)
         before = bisect_left(moments, deadline)
-        return [(before, 0, deadline, (*key, session), f"{clock} {text} {session:04x}") for session in sessions]
+        if lost.count > MOST_WAITING:
+            run = f"{sessions[0]:04x} to {sessions[-1]:04x}"
+            return [(before, 0, deadline, (*key, sessions[0], sessions[-1]), f"{clock} {text} {run}")]
+        keys = [(*key, session, session) for session in sessions]
+        return [(before, 0, deadline, of, f"{clock} {text} {session:04x}") for of, session in zip(keys, sessions)]
 
 
 def told(datagrams, lines):

@@ -5,7 +5,6 @@ from the sources. Gaps and reboots are those of the model of `audit`. All times 
                [--until TIME] [--overtake-ms N] [--sessions HOW] [--json] RECORDING
 """
 import json
-import re
 import sys
 from pathlib import Path
 from typing import NamedTuple, Optional
@@ -256,7 +255,7 @@ class Figures:
         if finding.kind == "event gap" and self.asked.counts(tuple(finding.ids()), None, datagram, time):
             event = self.row("events", self.events, (*finding.ids(), *ends), Event)
             if event:
-                event.gaps += skipped(finding.text)
+                event.gaps += 1
 
     # ---- Lines
 
@@ -275,12 +274,6 @@ class Figures:
             if name in self.full:
                 lines.append(json_text({"kind": "full", "name": name}) if self.asked.is_json else f"full {name}")
         return "".join(f"{line}\n" for line in lines)
-
-
-def skipped(text):
-    """How many sessions a line of a gap tells."""
-    first, last = re.search(r"session (\w{4})(?: to (\w{4}))?", text).groups()
-    return (int(last or first, 16) - int(first, 16)) % 0xFFFF + 1
 
 
 def ids(service, method, name="method"):

@@ -93,7 +93,7 @@ event_of event = record { sender = endpoint 9 40000; service = 4096; event = eve
 
 -- its session 3 that did not come until a moment
 abbrev pub lost_due : ℕ → FellDue
-lost_due at = due.EventLost (record { at = at; key = record { sender = endpoint 9 40000; service = 4096; event = 0x8001; session = 3 }; shown_by = event_of 0x8001; numbers = numbered 7 })
+lost_due at = due.EventLost (record { at = at; key = record { sender = endpoint 9 40000; service = 4096; event = 0x8001; session = 3; last = 3 }; shown_by = event_of 0x8001; numbers = numbered 7 })
 
 -- the event with this ID that was silent at a moment, with a cycle of 100 milliseconds
 abbrev pub silent_due : ℕ → ℕ → FellDue

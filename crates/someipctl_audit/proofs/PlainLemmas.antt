@@ -21,14 +21,14 @@ use Rattle.someip_audit.specs.declared.Finding.TheVariants as findings
 use Rattle.someip_audit.specs.declared.FellDue.{FellDue}
 use Rattle.someip_audit.specs.declared.FellDue.TheVariants as due
 use Rattle.someip_audit.specs.FellDues.{deadline}
-use Rattle.someip_texts.specs.Words.{hex2, hex4, spaced}
+use Rattle.someip_texts.specs.Words.{hex2, hex4, ids_text, spaced}
 use Rattle.someipctl_io.specs.declared.form.Form.TheVariants.{Plain}
 use Rattle.someipctl_io.specs.ToldLines.{ToldField, begin_text, content_text, fields_text, line_text}
 use Rattle.someipctl_recordings.specs.RecordedText.{time_text}
 use Rattle.someipctl_audit.specs.AuditText.{due_line, finding_line, head_text, line_of, origin_of_due, time_at}
 use Rattle.audit_rules.specs.Kinds.{kind_name, kind_words}
-use Rattle.someipctl_audit.specs.Said.{Said, call_words, fault_words, offer_words, said, said_of_due, subscription_words}
-use Rattle.someipctl_audit.specs.ToldFindings.{audit_head, call_fields, due_fields, finding_fields, kind_told, malformed_fields, offer_fields, subscription_fields}
+use Rattle.someipctl_audit.specs.Said.{Said, call_words, fault_words, lost_words, offer_words, said, said_of_due, subscription_words}
+use Rattle.someipctl_audit.specs.ToldFindings.{audit_head, call_fields, due_fields, event_fields, finding_fields, kind_told, last_field, lost_fields, malformed_fields, offer_fields, session_field, subscription_fields}
 use Rattle.someipctl_recordings.specs.Origins.{said_of_time}
 
 -- ---- the head
@@ -156,8 +156,6 @@ finding-words (findings.Event delivery receivers.Unsubscribed) = event-shape (co
 finding-words (findings.Event delivery receivers.Full) = refl
 finding-words (findings.EventSession flow session events.Repeated) = repeated-shape (codes " ") (hex4 flow.service) (codes ".") (hex4 flow.event) (codes "session") (hex4 session)
 finding-words (findings.EventSession flow session events.Overtaken) = repeated-shape (codes " ") (hex4 flow.service) (codes ".") (hex4 flow.event) (codes "session") (hex4 session)
-finding-words (findings.EventSession flow session (events.Lost first last)) =
-    gap-shape (codes " ") (hex4 flow.service) (codes ".") (hex4 flow.event) (codes "session") (hex4 first) (codes "to") (hex4 last)
 finding-words (findings.EventSession flow session events.EventsFull) = refl
 finding-words (findings.EventSession flow session events.GapsFull) = refl
 finding-words (findings.Segment h refusal) = ap (λ (t : List ℕ). (codes " " ++ error_name refusal) ++ t) (call-words [] h.service h.method h.client h.session)
@@ -170,12 +168,22 @@ silent-shape : (space s dot e word n ms : List ℕ)
     → (space ++ s) ++ ((dot ++ e) ++ (((space ++ word ++ space) ++ (n ++ (space ++ ms))) ++ [])) ≡ (space ++ (s ++ dot ++ e)) ++ ((space ++ word) ++ ((space ++ n) ++ ((space ++ ms) ++ [])))
 silent-shape space s dot e word n ms = simp (append_assoc, append-nil)
 
+lost-shape : (service event first last : ℕ)
+    → fields_text Plain (event_fields service event ++ lost_fields first last) ≡ spaced (ids_text service event ∷ lost_words first last)
+lost-shape service event first last = cases (first == last)
+  where
+    cases : (b : Bool)
+        → fields_text Plain (event_fields service event ++ (if b then session_field first ∷ [] else session_field first ∷ last_field last ∷ []))
+        ≡ spaced (ids_text service event ∷ (if b then codes "session" ∷ hex4 first ∷ [] else codes "session" ∷ hex4 first ∷ codes "to" ∷ hex4 last ∷ []))
+    cases true = repeated-shape (codes " ") (hex4 service) (codes ".") (hex4 event) (codes "session") (hex4 first)
+    cases false = gap-shape (codes " ") (hex4 service) (codes ".") (hex4 event) (codes "session") (hex4 first) (codes "to") (hex4 last)
+
 due-words : (told : FellDue) → fields_text Plain (due_fields told) ≡ spaced (said_of_due told).words
 due-words (due.Unanswered told) = call-words [] told.call.service told.call.method told.call.client told.call.session
 due-words (due.Missing told) = call-words [] told.key.service told.key.method told.key.client told.key.session
 due-words (due.Expired told) = offer-plain told.key
 due-words (due.SubscribeUnanswered told) = subscription-plain told.key
-due-words (due.EventLost told) = repeated-shape (codes " ") (hex4 told.shown_by.service) (codes ".") (hex4 told.shown_by.event) (codes "session") (hex4 told.key.session)
+due-words (due.EventLost told) = lost-shape told.shown_by.service told.shown_by.event told.key.session told.key.last
 due-words (due.Silent told) = silent-shape (codes " ") (hex4 told.flow.service) (codes ".") (hex4 told.flow.event) (codes "for") (decimal told.silent_ms) (codes "ms")
 
 -- ---- lines

@@ -112,8 +112,6 @@ said_of_server h servers.NotOffered = says kinds.NotOffered (header_words h)
 abbrev pub said_of_event : EventFlow → ℕ → EventFinding → Said
 said_of_event flow session events.Repeated = says kinds.EventRepeated (ids_text flow.service flow.event ∷ codes "session" ∷ hex4 session ∷ [])
 said_of_event flow session events.Overtaken = says kinds.EventOvertaken (ids_text flow.service flow.event ∷ codes "session" ∷ hex4 session ∷ [])
-said_of_event flow session (events.Lost first last) =
-    says kinds.EventGap (ids_text flow.service flow.event ∷ codes "session" ∷ hex4 first ∷ codes "to" ∷ hex4 last ∷ [])
 said_of_event flow session events.EventsFull = full (codes "events")
 said_of_event flow session events.GapsFull = full (codes "gaps")
 
@@ -141,11 +139,15 @@ said findings.CyclesFull = full (codes "cycles")
 
 -- ---- what fell due
 
+-- a session that did not come, or a run of them
+abbrev pub lost_words : ℕ → ℕ → List (List ℕ)
+lost_words first last = if first == last then codes "session" ∷ hex4 first ∷ [] else codes "session" ∷ hex4 first ∷ codes "to" ∷ hex4 last ∷ []
+
 -- what is said of it
 abbrev pub said_of_due : FellDue → Said
 said_of_due (due.Unanswered told) = says kinds.Unanswered (call_words told.call.service told.call.method told.call.client told.call.session)
 said_of_due (due.Missing told) = says kinds.SegmentsMissing (call_words told.key.service told.key.method told.key.client told.key.session)
 said_of_due (due.Expired told) = says kinds.OfferExpired (offer_words told.key)
 said_of_due (due.SubscribeUnanswered told) = says kinds.SubscribeUnanswered (subscription_words told.key)
-said_of_due (due.EventLost told) = says kinds.EventGap (ids_text told.shown_by.service told.shown_by.event ∷ codes "session" ∷ hex4 told.key.session ∷ [])
+said_of_due (due.EventLost told) = says kinds.EventGap (ids_text told.shown_by.service told.shown_by.event ∷ lost_words told.key.session told.key.last)
 said_of_due (due.Silent told) = says kinds.Silent (ids_text told.flow.service told.flow.event ∷ codes "for" ∷ decimal told.silent_ms ∷ codes "ms" ∷ [])

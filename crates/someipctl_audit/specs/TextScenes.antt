@@ -108,10 +108,14 @@ subscribe_1 = record { at = 9000; key = key_1; origin = origin_1 }
 abbrev pub lost_1 : LostEvent
 lost_1 = record {
   at = 9100;
-  key = record { sender = socket 1 30509; service = 0x1234; event = 0x8001; session = 9 };
+  key = record { sender = socket 1 30509; service = 0x1234; event = 0x8001; session = 9; last = 9 };
   shown_by = flow_1;
   numbers = record { datagram = 8; frame = 9 };
 }
+
+-- a run of them
+abbrev pub run_1 : LostEvent
+run_1 = record lost_1 { key = record { sender = socket 1 30509; service = 0x1234; event = 0x8001; session = 7; last = 0x58 } }
 
 -- ---- what is asked for
 

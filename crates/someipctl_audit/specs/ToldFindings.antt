@@ -166,7 +166,6 @@ fields_of_server h servers.NotOffered = header_fields (codes " ") h
 abbrev pub fields_of_event : EventFlow → ℕ → EventFinding → List ToldField
 fields_of_event flow session events.Repeated = event_fields flow.service flow.event ++ session_field session ∷ []
 fields_of_event flow session events.Overtaken = event_fields flow.service flow.event ++ session_field session ∷ []
-fields_of_event flow session (events.Lost first last) = event_fields flow.service flow.event ++ session_field first ∷ last_field last ∷ []
 fields_of_event flow session events.EventsFull = full_fields (codes "events")
 fields_of_event flow session events.GapsFull = full_fields (codes "gaps")
 
@@ -194,6 +193,10 @@ finding_fields findings.CyclesFull = full_fields (codes "cycles")
 
 -- ---- what fell due
 
+-- a session that did not come, or the first and the last of a run
+abbrev pub lost_fields : ℕ → ℕ → List ToldField
+lost_fields first last = if first == last then session_field first ∷ [] else session_field first ∷ last_field last ∷ []
+
 -- for how many milliseconds an event did not come
 abbrev pub silent_fields : EventFlow → ℕ → List ToldField
 silent_fields flow silent_ms = event_fields flow.service flow.event ++ field (codes " for ") (codes "ms") (millis silent_ms) ∷ []
@@ -204,7 +207,7 @@ due_fields (due.Unanswered told) = call_fields (codes " ") told.call.service tol
 due_fields (due.Missing told) = call_fields (codes " ") told.key.service told.key.method told.key.client told.key.session
 due_fields (due.Expired told) = offer_fields told.key
 due_fields (due.SubscribeUnanswered told) = subscription_fields told.key
-due_fields (due.EventLost told) = event_fields told.shown_by.service told.shown_by.event ++ session_field told.key.session ∷ []
+due_fields (due.EventLost told) = event_fields told.shown_by.service told.shown_by.event ++ lost_fields told.key.session told.key.last
 due_fields (due.Silent told) = silent_fields told.flow told.silent_ms
 
 -- ---- lines

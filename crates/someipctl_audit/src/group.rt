@@ -164,7 +164,6 @@ fn kind_of_event(flow: &EventFlow, session: u16, shown: &sequence::Finding) -> K
     match shown {
         sequence::Finding::Repeated => Kind::EventRepeated,
         sequence::Finding::Overtaken => Kind::EventOvertaken,
-        sequence::Finding::Lost { .. } => Kind::EventGap,
         sequence::Finding::EventsFull | sequence::Finding::GapsFull => Kind::Full,
     }
 }

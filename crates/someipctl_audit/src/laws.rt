@@ -39,7 +39,7 @@ ghost use Rattle.someipctl_audit.specs.TextScenes.{five_late, five_late_of_any_m
 ghost use Rattle.someipctl_audit.specs.TextScenes.{whole_service};
 ghost use Rattle.someipctl_audit.specs.TextScenes.{error_1, event_1, flow_1, header_1, instance_1, key_1, offer_1, origin_1};
 ghost use Rattle.someipctl_audit.specs.TextScenes.{other_1};
-ghost use Rattle.someipctl_audit.specs.TextScenes.{expired_1, lost_1, missing_1, subscribe_1, unanswered_1};
+ghost use Rattle.someipctl_audit.specs.TextScenes.{expired_1, lost_1, missing_1, run_1, subscribe_1, unanswered_1};
 
 /// What the lines of findings say, by example.
 pub fn findings_have_texts()
@@ -75,8 +75,7 @@ pub fn findings_have_texts()
     ensures event_overtaken { said_text (said (findings.EventSession flow_1 9 events.Overtaken))
         ≡ codes " event overtaken 1234.8001 session 0009\n" }
     ensures gap { said_text (said_of_due (due.EventLost lost_1)) ≡ codes " event gap 1234.8001 session 0009\n" }
-    ensures wide_gap { said_text (said (findings.EventSession flow_1 0x59 (events.Lost 7 0x58)))
-        ≡ codes " event gap 1234.8001 session 0007 to 0058\n" }
+    ensures wide_gap { said_text (said_of_due (due.EventLost run_1)) ≡ codes " event gap 1234.8001 session 0007 to 0058\n" }
     ensures gaps { said_text (said (findings.EventSession flow_1 9 events.GapsFull)) ≡ codes " full gaps\n" }
     ensures unsubscribed { said_text (said (findings.Event event_1 receivers.Unsubscribed))
         ≡ codes " event unsubscribed 1234.8001\n" }
@@ -156,8 +155,8 @@ pub fn findings_are_objects()
         ≡ codes "{\"kind\":\"interface\",\"datagram\":12,\"time\":null,\"from\":\"192.168.0.1:40000\",\"to\":\"192.168.0.2:30490\",\"interface\":\"02\",\"expected\":\"01\",\"service\":\"1234\",\"method\":\"0421\"}\n" }
     ensures not_offered { finding_line Json false false None origin_1 (findings.Server header_1 servers.NotOffered)
         ≡ codes "{\"kind\":\"not-offered\",\"datagram\":12,\"time\":null,\"from\":\"192.168.0.1:40000\",\"to\":\"192.168.0.2:30490\",\"service\":\"1234\",\"method\":\"0421\",\"client\":\"0101\",\"session\":\"0002\"}\n" }
-    ensures gap { finding_line Json false false None origin_1 (findings.EventSession flow_1 0x59 (events.Lost 7 0x58))
-        ≡ codes "{\"kind\":\"event-gap\",\"datagram\":12,\"time\":null,\"from\":\"192.168.0.1:40000\",\"to\":\"192.168.0.2:30490\",\"service\":\"1234\",\"event\":\"8001\",\"session\":\"0007\",\"last\":\"0058\"}\n" }
+    ensures wide { due_line Json false false (due.EventLost run_1)
+        ≡ codes "{\"kind\":\"event-gap\",\"datagram\":8,\"time\":\"9.100000000\",\"from\":\"192.168.0.1:30509\",\"to\":\"192.168.0.2:40000\",\"service\":\"1234\",\"event\":\"8001\",\"session\":\"0007\",\"last\":\"0058\"}\n" }
     ensures overtaken { finding_line Json false false None origin_1
         (findings.Session (sessions.Overtaken (record { session = 5; reboot = true })))
         ≡ codes "{\"kind\":\"sd-overtaken\",\"datagram\":12,\"time\":null,\"from\":\"192.168.0.1:40000\",\"to\":\"192.168.0.2:30490\",\"session\":\"0005\"}\n" }

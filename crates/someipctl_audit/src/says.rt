@@ -10,6 +10,7 @@ ghost use Rattle.someipctl_audit.specs.ToldFindings.{fields_of_receivers, fields
 ghost use Rattle.someipctl_audit.specs.ToldFindings.{fields_of_subscription, finding_fields, full_fields};
 ghost use Rattle.someipctl_audit.specs.ToldFindings.{malformed_fields};
 ghost use Rattle.audit_rules.specs.declared.kind.Kind.TheVariants as kinds;
+ghost use Rattle.someip_audit.specs.declared.FellDue.TheVariants as due;
 
 use crate::fields::{
     call_fields, error_fields, event_fields, event_session_fields, expected_field, header_fields,
@@ -21,6 +22,7 @@ use audit_sd::offers::OfferKey;
 use audit_sd::subscriptions::SubscriptionKey;
 use audit_traffic::calls::CallFinding;
 use audit_traffic::events::EventFlow;
+use audit_traffic::gaps::LostEvent;
 use audit_traffic::sequence;
 use someip_audit::{FellDue, Finding};
 use someip_wire::Header;
@@ -130,10 +132,7 @@ pub(crate) fn put_fallen<W: Write>(
             let fields = subscription_fields(&told.key);
             put_said(buffer, writer, head, Kind::SubscribeUnanswered, &fields)
         }
-        FellDue::EventLost(told) => {
-            let fields = event_session_fields(&told.shown_by, told.key.session);
-            put_said(buffer, writer, head, Kind::EventGap, &fields)
-        }
+        FellDue::EventLost(told) => put_lost(buffer, writer, head, told),
         FellDue::Silent(told) => {
             let fields = silent_fields(&told.flow, told.silent_ms);
             put_said(buffer, writer, head, Kind::Silent, &fields)
@@ -368,14 +367,29 @@ fn put_event<W: Write>(
             let fields = event_session_fields(flow, session);
             put_said(buffer, writer, head, Kind::EventOvertaken, &fields)
         }
-        sequence::Finding::Lost { first, last } => {
-            let [service, event, session] = event_session_fields(flow, *first);
-            let fields = [service, event, session, last_field(*last)];
-            put_said(buffer, writer, head, Kind::EventGap, &fields)
-        }
         sequence::Finding::EventsFull => put_full(buffer, writer, head, "events"),
         sequence::Finding::GapsFull => put_full(buffer, writer, head, "gaps"),
     }
+}
+
+/// Prints that a session of an event did not come, or a run of them.
+fn put_lost<W: Write>(
+    buffer: &mut Buffer,
+    writer: &mut W,
+    head: &LineHead<'_>,
+    told: &LostEvent,
+) -> Result<Kind, CannotWrite>
+    ensures { PutsLine head.now.form (view_head head.now) kinds.EventGap (due_fields (due.EventLost told.now)) result
+        (W.contents writer.old) buffer.old (W.contents writer.new) buffer.new }
+{
+    let key = &told.key;
+    let fields = event_session_fields(&told.shown_by, key.session);
+    if key.session == key.last {
+        return put_said(buffer, writer, head, Kind::EventGap, &fields);
+    }
+    let [service, event, session] = fields;
+    let fields = [service, event, session, last_field(key.last)];
+    put_said(buffer, writer, head, Kind::EventGap, &fields)
 }
 
 /// Prints the line of a kind with these fields, and tells the kind.

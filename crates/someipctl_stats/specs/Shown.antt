@@ -1,5 +1,5 @@
 -- What the audit of a recording shows to its figures.
-use Rattle.std.specs.Prelude.{ℕ, ◌+◌, ◌-◌, nat_le, if◌then◌else◌, Option, Some, None}
+use Rattle.std.specs.Prelude.{ℕ, Option, Some, None}
 use Rattle.audit_sd.specs.declared.sessions.Finding.{Finding as SessionFinding}
 use Rattle.audit_sd.specs.declared.sessions.Finding.TheVariants as sessions
 use Rattle.audit_stats.specs.declared.keys.Flow.{Flow}
@@ -25,31 +25,26 @@ flow_of flow = record { service = flow.service; method = flow.event; from = flow
 abbrev pub way_of : Origin → Way
 way_of origin = record { from = origin.from; to = origin.to }
 
--- how many sessions there are from one to another: after FFFF comes 1
-abbrev pub lost_count : ℕ → ℕ → ℕ
-lost_count first last = if nat_le first last then (last - first) + 1 else (0xffff - first) + 1 + last
-
 -- the session of a message of Service Discovery: that its sender began again
 abbrev pub shown_of_session : Origin → SessionFinding → Shown
 shown_of_session origin sessions.Reboot = shown.BeganAgain (way_of origin)
 shown_of_session origin sessions.Full = shown.Full lacks.Reboots
 shown_of_session origin _ = shown.Nothing
 
--- the session of an event: that those before it are lost
-abbrev pub shown_of_event : EventFlow → EventFinding → Shown
-shown_of_event flow (events.Lost first last) = shown.Lost (flow_of flow) (lost_count first last)
-shown_of_event flow events.EventsFull = shown.Full lacks.Gaps
-shown_of_event flow events.GapsFull = shown.Full lacks.Gaps
-shown_of_event flow _ = shown.Nothing
+-- the session of an event: that a book by which sessions are seen to be lost is full
+abbrev pub shown_of_event : EventFinding → Shown
+shown_of_event events.EventsFull = shown.Full lacks.Gaps
+shown_of_event events.GapsFull = shown.Full lacks.Gaps
+shown_of_event _ = shown.Nothing
 
 -- a finding of a datagram with this origin
 abbrev pub shown_of : Origin → Finding → Shown
 shown_of origin (findings.Session found) = shown_of_session origin found
-shown_of origin (findings.EventSession flow session found) = shown_of_event flow found
+shown_of origin (findings.EventSession flow session found) = shown_of_event found
 shown_of origin findings.EndpointsFull = shown.Full lacks.Endpoints
 shown_of origin _ = shown.Nothing
 
--- that something fell due: that a session of an event did not come
+-- that something fell due: that a session of an event did not come, or a run of them, which counts as one
 abbrev pub shown_of_due : FellDue → Shown
 shown_of_due (due.EventLost lost) = shown.Lost (flow_of lost.shown_by) 1
 shown_of_due _ = shown.Nothing

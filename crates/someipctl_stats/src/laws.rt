@@ -28,7 +28,7 @@ ghost use Rattle.someipctl_stats.specs.Counting.{after_facts, shown_facts};
 ghost use Rattle.someipctl_stats.specs.Examples.{answered, began_again, once, one_of_each, thrice, unanswered, way};
 ghost use Rattle.someipctl_stats.specs.LackLines.{lacks_text};
 ghost use Rattle.someipctl_stats.specs.Micros.{micros_after};
-ghost use Rattle.someipctl_stats.specs.Shown.{lost_count, shown_of, shown_of_due, subject_of};
+ghost use Rattle.someipctl_stats.specs.Shown.{flow_of, shown_of_due, subject_of};
 ghost use Rattle.someipctl_stats.specs.StatsAccount.{AskedStats, EndsStats, TakesStats, of_sessions, stats_begun};
 ghost use Rattle.someipctl_stats.specs.StatsLines.{discovery_line, event_line, full_line, method_line, millis_text};
 ghost use Rattle.someipctl_stats.specs.StatsText.{figures_text};
@@ -97,14 +97,6 @@ pub fn facts_are_counted_in_order()
         → after_facts facts (stats_of limits earlier) ≡ stats_of limits (reverse facts ++ earlier) }
 {}
 
-/// From session 7 to session 7 there is one, from 3 to 70 there are 68, and from FFFE to 2 there are four, since 1 comes
-/// after FFFF.
-pub fn lost_sessions_are_counted()
-    ensures one { lost_count 7 7 ≡ 1 }
-    ensures some { lost_count 3 70 ≡ 68 }
-    ensures wrapped { lost_count 0xfffe 2 ≡ 4 }
-{}
-
 /// A time is whole microseconds, and no earlier than the latest before it. Without one it is that.
 pub fn moments_never_fall()
     ensures rounded { micros_after 0 (Some (record { seconds = 1; nanoseconds = 1999 })) ≡ 1000001 }
@@ -137,12 +129,10 @@ pub fn figures_rest_on_few_rules()
     ensures of_sessions { (rules : AuditRules) → AgreeOnLosses rules (of_sessions rules) }
 {}
 
-/// Sessions that are lost count where `audit` tells their line: they are about what that is about. None does where a
+/// Sessions that are lost count as often as they are told, a run of them as one, and where `audit` tells their line: they are about what that is about. None does where a
 /// Client ID is asked for, and no reboot either.
 pub fn gaps_count_by_their_lines()
-    ensures at_once { (origin : Origin) (flow : EventFlow) (session first last : ℕ)
-        → subject_of (shown_of origin (findings.EventSession flow session (sequence.Lost first last)))
-        ≡ subject (findings.EventSession flow session (sequence.Lost first last)) }
+    ensures as_one { (lost : LostEvent) → shown_of_due (due.EventLost lost) ≡ shown.Lost (flow_of lost.shown_by) 1 }
     ensures at_the_deadline { (lost : LostEvent) → subject_of (shown_of_due (due.EventLost lost))
         ≡ Some (subject_of_due (due.EventLost lost)) }
     ensures of_no_client { (w : WantedValue) (client number : ℕ) (time : Option Time) (origin : Origin) (flow : Flow)

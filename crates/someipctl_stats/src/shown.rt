@@ -1,6 +1,6 @@
 //! What the audit of a recording shows to its figures.
 ghost use Rattle.std.specs.Prelude.{◌≡◌, ◌<◌, ◌^◌};
-ghost use Rattle.someipctl_stats.specs.Shown.{flow_of, lost_count, shown_of, shown_of_due, shown_of_event, shown_of_session, subject_of, way_of};
+ghost use Rattle.someipctl_stats.specs.Shown.{flow_of, shown_of, shown_of_due, shown_of_event, shown_of_session, subject_of, way_of};
 
 use audit_sd::sessions;
 use audit_stats::{Flow, Way};
@@ -15,7 +15,7 @@ use someipctl_audit::subject::Subject;
 pub(crate) enum Shown {
     /// Nothing that they count.
     Nothing,
-    /// So many sessions of an event are lost.
+    /// So many sessions of an event are lost, and a run of them counts as one.
     Lost(Flow, u64),
     /// The sender of a way began again.
     BeganAgain(Way),
@@ -40,7 +40,7 @@ pub(crate) fn shown_of(origin: &Origin, finding: &Finding) -> Shown
 {
     match finding {
         Finding::Session(shown) => shown_of_session(origin, shown),
-        Finding::EventSession(flow, _, shown) => shown_of_event(flow, shown),
+        Finding::EventSession(_, _, shown) => shown_of_event(shown),
         Finding::EndpointsFull => Shown::Full(Lack::Endpoints),
         _ => Shown::Nothing,
     }
@@ -58,13 +58,10 @@ fn shown_of_session(origin: &Origin, shown: &sessions::Finding) -> Shown
 }
 
 /// What the session of an event shows.
-fn shown_of_event(flow: &EventFlow, shown: &sequence::Finding) -> Shown
-    ensures { result ≡ shown_of_event flow.now shown.now }
+fn shown_of_event(shown: &sequence::Finding) -> Shown
+    ensures { result ≡ shown_of_event shown.now }
 {
     match shown {
-        sequence::Finding::Lost { first, last } => {
-            Shown::Lost(flow_of(flow), lost_count(*first, *last))
-        }
         sequence::Finding::EventsFull | sequence::Finding::GapsFull => Shown::Full(Lack::Gaps),
         _ => Shown::Nothing,
     }
@@ -78,16 +75,6 @@ pub(crate) fn shown_of_due(told: &FellDue) -> Shown
         FellDue::EventLost(lost) => Shown::Lost(flow_of(&lost.shown_by), 1),
         _ => Shown::Nothing,
     }
-}
-
-/// How many sessions there are from one to another. After FFFF comes 1.
-fn lost_count(first: u16, last: u16) -> u64
-    ensures { result ≡ lost_count first last }
-{
-    if first <= last {
-        return u64::from(last - first) + 1;
-    }
-    u64::from(0xffff - first) + 1 + u64::from(last)
 }
 
 /// The flow of an event.

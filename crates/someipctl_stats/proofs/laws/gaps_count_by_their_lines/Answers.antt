@@ -3,8 +3,8 @@ use Rattle.audit_stats.specs.Stats.{BeganAgain, Lost}
 use Rattle.someipctl_stats.proofs.ChosenLemmas.{no_event_counts}
 use Rattle.someipctl_stats.proofs.laws.gaps_count_by_their_lines.Goals as goal
 
-pub returns-clause-at_once : goal.returns-clause-at_once
-returns-clause-at_once c = λ origin flow session first last. refl
+pub returns-clause-as_one : goal.returns-clause-as_one
+returns-clause-as_one c = λ lost. refl
 
 pub returns-clause-at_the_deadline : goal.returns-clause-at_the_deadline
 returns-clause-at_the_deadline c = λ lost. refl
