@@ -1,8 +1,8 @@
 -- Exit statuses, why a command failed, and the answer to words that give none.
 use Rattle.std.specs.Prelude.{◌≡◌, ℕ, List, take, Option, Result, Ok, Err, string_bytes}
 use Rattle.std.specs.Io.KnownBytes.{Appends, Keeps}
-use Rattle.someipctl_cli.specs.declared.command.LineError.{LineError}
-use Rattle.someipctl_cli.specs.declared.command.LineError.TheVariants as words
+use Rattle.someipctl_words.specs.declared.LineError.{LineError}
+use Rattle.someipctl_words.specs.declared.LineError.TheVariants as words
 use Rattle.someipctl_io.specs.declared.outcome.Outcome.{Outcome}
 use Rattle.someipctl_io.specs.declared.outcome.Outcome.TheVariants.{Done}
 use Rattle.std.specs.Borrow.{Bor}

@@ -1,3 +1,3 @@
-pub mod CommandLine
+pub mod SettingsAsked
 pub mod Sources
 pub mod Failures

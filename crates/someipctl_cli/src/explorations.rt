@@ -3,7 +3,6 @@ ghost use Rattle.std.specs.Prelude.{◌≡◌, true, false};
 ghost use Rattle.someipctl_explore.specs.declared.notes.Progress.TheVariants.{Lines, Silent};
 
 use crate::error_writer::ErrorWriter;
-use crate::explore_words::ExploreOptions;
 use crate::failure::{Failure, OptionName, Refusal};
 use crate::runs::setup_at;
 use crate::source::open_file;
@@ -12,6 +11,7 @@ use someip_world::Setup;
 use someipctl_explore::{Notes, Progress, explore_schedules, goal_in, read_moves};
 use someipctl_io::{Fault, Outcome, read_all};
 use someipctl_recordings::number_within;
+use someipctl_words::ExploreOptions;
 use std::io;
 use std::rt::Files;
 

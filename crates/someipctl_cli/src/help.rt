@@ -1,9 +1,9 @@
 //! The answer to words that give no command.
 ghost use Rattle.someipctl_cli.specs.Failures.{Answers};
 
-use crate::command::LineError;
 use crate::failure::Failure;
 use someipctl_io::{CannotWrite, Outcome, write_text};
+use someipctl_words::LineError;
 use std::io::Write;
 
 /// Prints the help that was asked for. Other words without a command are a failure, and nothing is

@@ -1,15 +1,19 @@
 //! What the options of commands ask for, once their texts are right.
 ghost use Rattle.std.specs.Prelude.{◌≡◌, true, false};
+ghost use Rattle.someipctl_cli.specs.SettingsAsked.{stats_texts_of, texts_of};
 
-use crate::command::{ChoiceOptions, PacketOptions, RecordingOptions};
 use crate::failure::{Failure, OptionName};
 use recording::Time;
 use recording_packets::ChosenPackets;
+use someipctl_audit::SettingTexts;
 use someipctl_io::Form;
 use someipctl_recordings::choice::{client_in, time_in};
 use someipctl_recordings::lists::{addresses_in, numbers_in};
 use someipctl_recordings::{Wanted, WholeLimits, limits_in, number_within};
 use someipctl_show::services::{AskedService, services_in};
+use someipctl_words::{
+    ChoiceOptions, PacketOptions, RecordingOptions, SettingOptions, StatsOptions,
+};
 
 /// The interfaces and the VLAN IDs whose packets are looked at, if they are named.
 #[derive(Drop)]
@@ -235,4 +239,28 @@ pub(crate) fn line_form(json: bool) -> Form
     ensures plain { json ≡ false → result ≡ Form.Plain }
 {
     if json { Form::Json } else { Form::Plain }
+}
+
+/// The texts of the settings of an audit that its options say.
+pub(crate) fn texts_of<'w>(options: &SettingOptions<'w>) -> SettingTexts<'w>
+    ensures { result ≡ texts_of options.now }
+{
+    SettingTexts {
+        answer_ms: options.answer_ms,
+        settle_ms: options.settle_ms,
+        overtake_ms: options.overtake_ms,
+        sessions: options.sessions,
+    }
+}
+
+/// The texts of the settings of the audit behind figures that the options of `stats` say.
+pub(crate) fn stats_texts_of<'w>(options: &StatsOptions<'w>) -> SettingTexts<'w>
+    ensures { result ≡ stats_texts_of options.now }
+{
+    SettingTexts {
+        answer_ms: None,
+        settle_ms: None,
+        overtake_ms: options.overtake_ms,
+        sessions: options.sessions,
+    }
 }

@@ -3,7 +3,6 @@
 ghost use Rattle.std.specs.Prelude.{◌≡◌};
 ghost use Rattle.someipctl_cli.specs.Failures.{status_of_failure};
 
-use crate::command::{Command, command_of};
 use crate::explorations::explore_files;
 use crate::failure::{Failure, Refusal};
 use crate::help::answer_error;
@@ -18,6 +17,7 @@ use someipctl_show::encode::encode;
 use someipctl_show::payload::payload;
 use someipctl_show::show::show_in;
 use someipctl_show::vectors::vectors_in;
+use someipctl_words::{Command, command_of};
 use std::io::ErrorKind;
 use std::rt::{Env, Files};
 use std::{env, io};

@@ -1,11 +1,9 @@
 //! The commands over recordings: `recording`, `audit`, `extract`, `services` and `stats`.
-use crate::command::{AuditOptions, RecordingOptions};
-use crate::extract_words::ExtractOptions;
 use crate::failure::{Failure, Refusal};
-use crate::options::{Selection, SharedOptions, line_form, selection_of, whole_of};
-use crate::report_words::ReportOptions;
+use crate::options::{
+    Selection, SharedOptions, line_form, selection_of, stats_texts_of, texts_of, whole_of,
+};
 use crate::source::{open_sources, rules_at, types_at};
-use crate::stats_words::StatsOptions;
 use recording_packets::LeftOut;
 use someip_tp::IntervalPool;
 use someipctl_audit::{AuditAsked, rules_in, show_audit};
@@ -16,6 +14,9 @@ use someipctl_recordings::{
 };
 use someipctl_services::{ServicesAsked, show_services};
 use someipctl_stats::{StatsAsked, show_stats};
+use someipctl_words::{
+    AuditOptions, ExtractOptions, RecordingOptions, ReportOptions, StatsOptions,
+};
 use std::io;
 use std::rt::Files;
 
@@ -111,7 +112,7 @@ fn audit_wanted<'p, R: Files + Print + Eprint + Input + AllocGlobal>(
     options: AuditOptions<'p>,
     wanted: Wanted<'_>,
 ) -> Result<Outcome, Failure<'p>> {
-    let rules = match rules_in(&options.settings.texts()) {
+    let rules = match rules_in(&texts_of(&options.settings)) {
         Ok(rules) => rules,
         Err(error) => return Err(Failure::BadSetting(error, AUDIT_USAGE)),
     };
@@ -220,7 +221,7 @@ fn stats_wanted<'p, R: Files + Print + Eprint + Input + AllocGlobal>(
     options: StatsOptions<'p>,
     wanted: Wanted<'_>,
 ) -> Result<Outcome, Failure<'p>> {
-    let rules = match rules_in(&options.texts()) {
+    let rules = match rules_in(&stats_texts_of(options)) {
         Ok(rules) => rules,
         Err(error) => return Err(Failure::BadSetting(error, STATS_USAGE)),
     };

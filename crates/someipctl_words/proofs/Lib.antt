@@ -1,0 +1,2 @@
+pub mod ClapWalkLemmas
+pub mod CommandLineLemmas
