@@ -221,7 +221,7 @@ fn stats_wanted<'p, R: Files + Print + Eprint + Input + AllocGlobal>(
     options: StatsOptions<'p>,
     wanted: Wanted<'_>,
 ) -> Result<Outcome, Failure<'p>> {
-    let rules = match rules_in(&stats_texts_of(options)) {
+    let rules = match rules_in(&stats_texts_of(&options)) {
         Ok(rules) => rules,
         Err(error) => return Err(Failure::BadSetting(error, STATS_USAGE)),
     };
