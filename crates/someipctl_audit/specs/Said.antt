@@ -1,5 +1,5 @@
 -- What the line of a finding says.
-use Rattle.std.specs.Prelude.{ℕ, List, [], ◌∷◌, codes, decimal}
+use Rattle.std.specs.Prelude.{ℕ, List, [], ◌∷◌, codes, decimal, ◌==◌, if◌then◌else◌}
 use Rattle.someip_wire.specs.declared.Header.{Header}
 use Rattle.someip_wire.specs.Faults as wire
 use Rattle.someip_reassembly.specs.Names.{error_name}

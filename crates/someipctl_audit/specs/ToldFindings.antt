@@ -1,5 +1,5 @@
 -- What the lines of an audit tell, field by field.
-use Rattle.std.specs.Prelude.{ℕ, Bool, true, false, List, [], ◌∷◌, ◌++◌, codes, Option, Some}
+use Rattle.std.specs.Prelude.{ℕ, Bool, true, false, List, [], ◌∷◌, ◌++◌, codes, Option, Some, ◌==◌, if◌then◌else◌}
 use Rattle.recording.specs.declared.Time.{Time}
 use Rattle.someip_tables.specs.declared.hashed.Origin.{Origin}
 use Rattle.someip_wire.specs.declared.Header.{Header}
