@@ -63,19 +63,30 @@ def event_receivers(count):
                         for session in (1, 2) for number in range(count)]
 
 
+def of_one_service(count):
+    """So many flows of one service, of events of as many endpoints of its server as need be."""
+    return [wire.Record(0, (SERVER[0], SERVER[1] + number // 32768), CLIENT, event(1, 1, 0x8000 + number % 32768))
+            for number in range(count)]
+
+
+def changes(count):
+    """Subscribes and StopSubscribes of one subscription to that service, in turn: each begins it, or ends it."""
+    return [wire.Entry(6, 1, 1, 1, 0 if number % 2 else FOREVER, 0, 1, CLIENT) for number in range(count)]
+
+
 def event_changes(count):
-    """Events of a server, and then StopSubscribes of their client, an event between two."""
-    found = offered() + of_flows(count, 1)
-    for number in range(count):
-        found.append(discovery(B, A, 1 + number % 60000, [entry(6, 0, CLIENT, 0)], 0x40))
-        found.append(wire.Record(0, SERVER, CLIENT, event(2, 1 + number // 256, number % 256)))
+    """Events of a server, and then a subscription to their service that begins and ends, an event between two."""
+    found = [discovery(A, GROUP, 1, [entry(1, 0, CLIENT)])] + of_one_service(count)
+    for number, change in enumerate(changes(count)):
+        found.append(discovery(B, A, 1 + number % 60000, [change], 0x40))
+        found.append(wire.Record(0, SERVER, CLIENT, event(2, 1, 0x8000 + number % 32768)))
     return found
 
 
 def event_changes_at_once(count):
-    """The same, with all StopSubscribes in few datagrams, and no event between them."""
-    found = offered() + of_flows(count, 1)
-    for session, some in enumerate(batches([entry(6, 0, CLIENT, 0)] * count, 2000), 1):
+    """The same, with all changes in few datagrams, and no event between them."""
+    found = [discovery(A, GROUP, 1, [entry(1, 0, CLIENT)])] + of_one_service(count)
+    for session, some in enumerate(batches(changes(count), 1000), 1):
         found.append(discovery(B, A, session, some))
     return found
 
@@ -123,6 +134,15 @@ def reboots_of_senders(count):
     for number in range(count):
         found.append(discovery(node(number), GROUP, 100))
         found.append(wire.Record(0, node(number, 30509), CLIENT, event(1)))
+    return found + [discovery(node(number), GROUP, 1) for number in range(count)]
+
+
+def reboots_of_gaps(count):
+    """Flows from many nodes to one, of each of which a session is missing when its node begins again."""
+    found = [discovery(A, GROUP, 1, [entry(1, 0, CLIENT)])]
+    for number in range(count):
+        found.append(discovery(node(number), GROUP, 100))
+        found += [wire.Record(0, node(number, 30509), CLIENT, event(session)) for session in (1, 3)]
     return found + [discovery(node(number), GROUP, 1) for number in range(count)]
 
 
@@ -300,7 +320,8 @@ def named(*makers):
 
 BOOKS = named(
     event_receivers, event_changes, event_changes_at_once, event_withdrawals, reboots, reboots_of_offers,
-    reboots_of_subscribes, reboots_of_clients, reboots_of_servers, reboots_of_senders, reboots_of_receivers,
+    reboots_of_subscribes, reboots_of_clients, reboots_of_servers, reboots_of_senders, reboots_of_gaps,
+    reboots_of_receivers,
     events_to_subscriptions, events_to_nobody, subscribes_after_told, withdrawals_of_subscriptions, stops_of_subscriptions,
     expiring, silent_events, stops_of_watches, calls, gaps, ways, offers, figures_of_calls, figures_of_events,
     figures_of_ways)
@@ -314,7 +335,7 @@ RULES = dict.fromkeys(("silent events", "stops of watches"), "[[rule]]\ncycle_ms
 # What is told of each key, or of nearly each: by this it is seen that the hits are hits.
 TOLD = {
     "reboots": "reboot", "reboots of offers": "reboot", "reboots of subscribes": "reboot", "reboots of clients": "reboot",
-    "reboots of servers": "reboot", "reboots of senders": "reboot", "reboots of receivers": "reboot",
+    "reboots of servers": "reboot", "reboots of senders": "reboot", "reboots of receivers": "reboot", "reboots of gaps": "reboot",
     "events to nobody": "event unsubscribed", "subscribes after told": "event unsubscribed",
     "expiring": "event unsubscribed", "calls": "unanswered", "gaps": "event overtaken",
     "silent events": "silent",
