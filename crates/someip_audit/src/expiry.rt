@@ -12,8 +12,8 @@ use std::alloc::{AllocError, Global};
 use std::collections::BTreeSet;
 
 impl<S: Reassembly> Books<S> {
-    /// Drops the subscriptions that have expired, disturbs the flows between client and server of each, and ends
-    /// the watches of its events. Memory is taken only where there are any, and what is refused for want of it changes
+    /// Drops the subscriptions that have expired, disturbs the flows of the service of each between its client and its
+    /// server, and ends the watches of its events. Memory is taken only where there are any, and what is refused for want of it changes
     /// nothing.
     pub(crate) fn expire(&mut self, alloc: Global, now: Moment) -> Result<(), AllocError>
         ensures ok { OnOk result (self.new ≡ without_passed now self.old) }
@@ -26,7 +26,7 @@ impl<S: Reassembly> Books<S> {
     }
 }
 
-/// Disturbs the flows between client and server of each of these subscriptions.
+/// Disturbs the flows of the service of each of these subscriptions between its client and its server.
 fn disturb_each(events: &mut SequenceBook, ended: &BTreeSet<SubscriptionKey>)
     ensures { events.new ≡ each_disturbed ended.now.keys events.old }
 {

@@ -17,7 +17,7 @@ pub enum FellDue {
     Expired(Expired),
     /// A Subscribe had neither an Ack nor a Nack in time.
     SubscribeUnanswered(SubscribeUnanswered),
-    /// A session of an event was skipped, and did not come in time.
+    /// A session of an event was skipped, or a run of them, and did not come in time.
     EventLost(LostEvent),
     /// An event that comes in cycles did not come for three of them.
     Silent(SilentEvent),

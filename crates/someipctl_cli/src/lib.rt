@@ -12,8 +12,11 @@
 //! - `recordings`, `runs`, `explorations`: the commands over recordings, and over setups;
 //! - `failure`: why the program failed, with its exit status and its text.
 //!
-//! What the words ask for stands in `someipctl_words`. Where memory is refused the program ends with exit status 3
-//! before anything was written.
+//! What the words ask for stands in `someipctl_words`.
+//!
+//! A refusal of memory that the standard library can do without is none. One of the some 45 allocations of
+//! a run is such, while the arguments are read; each other one ends the program with exit status 3 before
+//! anything was written.
 #![tactic(auto)]
 
 mod error_writer;

@@ -8,8 +8,8 @@
 //! - `examples`: the text below each help;
 //! - [`laws`]: what the definitions behind the contracts promise.
 //!
-//! A refusal of memory that the standard library can do without is none. One of the some 45 allocations of
-//! a run is such, while the arguments are read.
+//! A refusal of memory that the standard library can do without is none: the words are read all the same. Any other is
+//! [`LineError::OutOfMemory`].
 #![tactic(auto)]
 
 mod command;

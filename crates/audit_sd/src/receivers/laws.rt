@@ -141,8 +141,7 @@ pub fn subscriptions_begin_and_end()
         → begins_or_ends (record (subscribe 2 40000 3) { endpoint = None }) standing ≡ false }
 {}
 
-/// Where an entry neither begins nor ends a subscription, each goes to where it went before: so no event between two
-/// that a receiver got went elsewhere.
+/// Where an entry neither begins nor ends a subscription, each stands as before: the same ones, with the same endpoints.
 pub fn what_begins_and_ends_none_leaves_all()
     ensures { (now : ℕ) (entry : ReceiverEntry) (book : Receivers) (key : SubscriptionKey)
         → begins_or_ends entry book.standing ≡ false

@@ -58,7 +58,8 @@ may_reach client address = eq_by_cmp address_cmp address client || is_group addr
 abbrev pub is_of_service : Ipv4Addr → ℕ → EventFlow → Bool
 is_of_service server service flow = eq_by_cmp address_cmp flow.sender.ip server && (flow.service == service)
 
--- a subscription of a client to a service at a server that begins or ends may change who gets a flow: it is of that service
+-- a subscription of a client to a service at a server that begins or ends may change who gets a flow: it is of that service from
+-- the server, and goes to the client or to a group
 abbrev pub is_between : Ipv4Addr → Ipv4Addr → ℕ → EventFlow → Bool
 is_between client server service flow = is_of_service server service flow && may_reach client flow.receiver.ip
 
