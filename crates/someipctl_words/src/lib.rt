@@ -9,7 +9,7 @@
 //! - [`laws`]: what the definitions behind the contracts promise.
 //!
 //! A refusal of memory that the standard library can do without is none: the words are read all the same. Any other is
-//! [`LineError::OutOfMemory`].
+//! `OutOfMemory`.
 #![tactic(auto)]
 
 mod command;
